@@ -1,0 +1,11 @@
+use mathlib.Core.List.{[], _∷_}
+use borrow.Author.Needs.{needs}
+use native.Mathlib.Omega.{arith}
+use Rattle.path.proofs.Growing.{grown-room, grown-twice}
+use Rattle.path.proofs.path.Path.add_line_segment.Needs as need
+
+pub push-requires-2 : need.push-requires-2
+push-requires-2 c κs = grown-room _ _ (_ ∷ []) 1 (c .push .ensures) (search needs)
+
+pub returns : need.returns
+returns c = let both = grown-twice _ _ _ (_ ∷ []) (_ ∷ []) (c .push .ensures) (c .push-2 .ensures) in search needs

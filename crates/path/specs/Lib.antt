@@ -1,0 +1,5 @@
+pub mod Builders
+pub mod Faults
+pub mod Held
+pub mod Lines
+pub mod Points
