@@ -1,0 +1,7 @@
+//! Stroked figures: triangles with colours, drawn into memory that the caller lends.
+pub mod color;
+pub mod fault;
+pub mod finished;
+pub mod mesh;
+pub mod rule;
+pub mod vertex;
