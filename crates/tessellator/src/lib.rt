@@ -3,5 +3,7 @@ pub mod color;
 pub mod fault;
 pub mod finished;
 pub mod mesh;
+pub mod row;
 pub mod rule;
+pub mod stroke;
 pub mod vertex;

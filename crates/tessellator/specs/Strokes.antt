@@ -1,0 +1,204 @@
+-- The figures of strokes.
+use mathlib.Core.Bool.{Bool, true, false, not, cond, _&&_, _||_}
+use mathlib.Core.List.{List, [], _∷_, _++_, map}
+use Prim.Native.Nat.{ℕ, _-_}
+use lib.Dec.{ltb}
+use lib.Ieee.{Float, binary32, ofBits, sub, mul, div, neg, le, lt, eq}
+use lib.ListN.{length, take, drop}
+use Rattle.std.specs.declared.option.Option.{Option}
+use Rattle.std.specs.declared.option.Option.the-variants.{Some, None}
+use Rattle.emath.specs.Answers.{Answer}
+use Rattle.emath.specs.Limits.{isPlace, isDistance}
+use Rattle.emath.specs.Plane as plane
+use Rattle.emath.specs.declared.plane.Pos2.{Pos2}
+use Rattle.emath.specs.declared.rect.Rect.{Rect}
+use Rattle.path.specs.Held.{Held}
+use Rattle.path.specs.Points.{moved}
+use Rattle.path.specs.declared.point.PathPoint.{PathPoint}
+use Rattle.path.specs.declared.point.Side.the-variants.{Outward, Along, Inward, OutwardPast, InwardPast}
+use Rattle.tessellator.specs.Boxes.{strokeBox}
+use Rattle.tessellator.specs.Colors.{transparent, isTransparent}
+use Rattle.tessellator.specs.Fills.{fillFigure, half}
+use Rattle.tessellator.specs.Kinds.{Kind, Style, hard, thin, thick, line, loop, filled}
+use Rattle.tessellator.specs.Outcome.{Figure, Outcome, nothing, shaped, outcome, sizing}
+use Rattle.tessellator.specs.Rows.{rowVertices}
+use Rattle.tessellator.specs.State.{MeshState}
+use Rattle.tessellator.specs.Turns.{turned}
+use Rattle.tessellator.specs.declared.color.Color32.{Color32}
+use Rattle.tessellator.specs.declared.fault.Appended.{Appended}
+use Rattle.tessellator.specs.declared.row.Paint.the-variants.{Flat, Core, Faded}
+use Rattle.tessellator.specs.declared.row.Row.{Row}
+use Rattle.tessellator.specs.declared.stroke.StrokeKind.{StrokeKind}
+use Rattle.tessellator.specs.declared.stroke.StrokeKind.the-variants.{Inside, Middle, Outside}
+use Rattle.tessellator.specs.declared.vertex.Vertex.{Vertex}
+
+-- ---- the rows beside the path
+
+abbrev pub innerRadius : Float → Float → Float
+innerRadius feathering width = half (sub binary32 width feathering)
+
+abbrev pub outerRadius : Float → Float → Float
+outerRadius feathering width = plane.midpoint width feathering
+
+abbrev pub thickRows : Float → Float → Color32 → List Row
+thickRows feathering width fill =
+    record { side = Outward (outerRadius feathering width); paint = Flat transparent }
+    ∷ record { side = Outward (innerRadius feathering width); paint = Core }
+    ∷ record { side = Inward (innerRadius feathering width); paint = Core }
+    ∷ record { side = Inward (outerRadius feathering width); paint = Flat fill } ∷ []
+
+-- the outer rows at an end of a thick line lie further out
+abbrev pub endRows : Float → Float → Float → List Row
+endRows feathering width past =
+    record { side = OutwardPast (outerRadius feathering width) past; paint = Flat transparent }
+    ∷ record { side = Outward (innerRadius feathering width); paint = Core }
+    ∷ record { side = Inward (innerRadius feathering width); paint = Core }
+    ∷ record { side = InwardPast (outerRadius feathering width) past; paint = Flat transparent } ∷ []
+
+abbrev pub thinRows : Float → Float → Color32 → List Row
+thinRows feathering width fill =
+    record { side = Outward feathering; paint = Flat transparent }
+    ∷ record { side = Along; paint = Faded (div binary32 width feathering) }
+    ∷ record { side = Inward feathering; paint = Flat fill } ∷ []
+
+abbrev pub hardRows : Float → List Row
+hardRows width =
+    record { side = Outward (div binary32 width plane.two); paint = Core }
+    ∷ record { side = Inward (div binary32 width plane.two); paint = Core } ∷ []
+
+-- at most 0.9 of the feathering
+abbrev pub isThin : Float → Float → Bool
+isThin feathering width = le width (mul binary32 (ofBits binary32 0x3F66_6666) feathering)
+
+-- ---- what a stroke is drawn with
+
+-- a line whose ends are not joined, or a loop around a fill, which is transparent where there is none
+pub data Course : Type 0 where
+  unjoined : Course
+  around : Color32 → Course
+
+abbrev pub fillOf : Course → Color32
+fillOf unjoined = transparent
+fillOf (around fill) = fill
+
+abbrev pub isLoop : Course → Bool
+isLoop unjoined = false
+isLoop (around fill) = true
+
+-- a hard stroke of two points has no fill within
+abbrev pub filledKind : Style → ℕ → Kind
+filledKind hard n = cond (ltb n 3) (loop hard) (filled hard)
+filledKind thin n = filled thin
+filledKind thick n = filled thick
+
+abbrev pub kindOf : Style → Course → ℕ → Kind
+kindOf style unjoined n = line style
+kindOf style (around fill) n = cond (isTransparent fill) (loop style) (filledKind style n)
+
+pub record Pen : Type 0 where
+  pub feathering : Float
+  pub width : Float
+  pub kind : StrokeKind
+  pub course : Course
+  pub colour : Rect → Pos2 → Color32
+  pub plain : Option Color32
+
+-- ---- the points in the middle of the stroke
+
+abbrev pub isMiddle : StrokeKind → Bool
+isMiddle Inside = false
+isMiddle Middle = true
+isMiddle Outside = false
+
+-- clockwise, where the fill or the kind asks for an inside
+abbrev pub faced : Pen → List PathPoint → List PathPoint
+faced pen points =
+    cond (not (isTransparent (fillOf (pen .course))) || (isLoop (pen .course) && not (isMiddle (pen .kind)))) (turned points) points
+
+abbrev pub centred : StrokeKind → Float → List PathPoint → List PathPoint
+centred Inside width points = map (moved (Inward (half width))) points
+centred Middle width points = points
+centred Outside width points = map (moved (Outward (half width))) points
+
+abbrev pub middleOf : Pen → List PathPoint → List PathPoint
+middleOf pen points = centred (pen .kind) (pen .width) (faced pen points)
+
+-- within a stroke that is transparent everywhere
+abbrev pub shrunk : StrokeKind → Float → List PathPoint → List PathPoint
+shrunk Inside width points = map (moved (Inward width)) points
+shrunk Middle width points = map (moved (Inward (half width))) points
+shrunk Outside width points = points
+
+abbrev pub isClear : Option Color32 → Bool
+isClear None = false
+isClear (Some color) = isTransparent color
+
+-- ---- the figures
+
+-- the rule's answers for the box of a stroke over these points
+abbrev pub ruleOn : Pen → List PathPoint → Pos2 → Color32
+ruleOn pen points = pen .colour (strokeBox (pen .feathering) (pen .width) points)
+
+-- a filled thin stroke lies further out, so that the filled area stays as it is
+abbrev pub swollen : Pen → List PathPoint → List PathPoint
+swollen pen points =
+    cond (isTransparent (fillOf (pen .course))) points
+    (cond (lt (pen .width) (pen .feathering)) (map (moved (Outward (half (sub binary32 (pen .feathering) (pen .width))))) points) points)
+
+abbrev pub thinStroke : Pen → List PathPoint → Figure
+thinStroke pen points =
+    shaped (kindOf thin (pen .course) (length points)) (swollen pen points)
+    (rowVertices (ruleOn pen points) (thinRows (pen .feathering) (pen .width) (fillOf (pen .course))) (swollen pen points))
+
+abbrev pub thickLine : Pen → (Pos2 → Color32) → List PathPoint → List Vertex
+thickLine pen rule points =
+    rowVertices rule (endRows (pen .feathering) (pen .width) (pen .feathering)) (take 1 points)
+    ++ (rowVertices rule (thickRows (pen .feathering) (pen .width) transparent) (take (length points - 2) (drop 1 points))
+    ++ rowVertices rule (endRows (pen .feathering) (pen .width) (neg (pen .feathering))) (drop (length points - 1) points))
+
+abbrev pub thickVertices : Course → Pen → (Pos2 → Color32) → List PathPoint → List Vertex
+thickVertices unjoined pen rule points = thickLine pen rule points
+thickVertices (around fill) pen rule points = rowVertices rule (thickRows (pen .feathering) (pen .width) fill) points
+
+abbrev pub thickStroke : Pen → List PathPoint → Figure
+thickStroke pen points =
+    shaped (kindOf thick (pen .course) (length points)) points (thickVertices (pen .course) pen (ruleOn pen points) points)
+
+-- the points of a visible fill within a hard stroke, whose vertices follow the stroke's
+abbrev pub hardInside : Pen → List PathPoint → List PathPoint
+hardInside pen points = cond (isTransparent (fillOf (pen .course))) points (map (moved (Inward (half (pen .width)))) points)
+
+abbrev pub hardStroke : Pen → List PathPoint → Figure
+hardStroke pen points =
+    shaped (kindOf hard (pen .course) (length points)) (hardInside pen points)
+    (rowVertices (ruleOn pen points) (hardRows (pen .width)) points ++ fillFigure plane.zero (fillOf (pen .course)) (hardInside pen points) .vertices)
+
+-- a stroke over points that lie in its middle
+abbrev pub strokeAlong : Pen → List PathPoint → Figure
+strokeAlong pen points =
+    cond (lt plane.zero (pen .feathering))
+    (cond (isThin (pen .feathering) (pen .width)) (thinStroke pen points) (thickStroke pen points))
+    (hardStroke pen points)
+
+-- fewer than two points give nothing, and a stroke of no width or of no colour gives only the fill
+abbrev pub strokeFigure : Pen → List PathPoint → Figure
+strokeFigure pen points =
+    cond (ltb (length points) 2) (nothing points)
+    (cond (eq (pen .width) plane.zero) (fillFigure (pen .feathering) (fillOf (pen .course)) points)
+    (cond (isClear (pen .plain)) (fillFigure (pen .feathering) (fillOf (pen .course)) (shrunk (pen .kind) (pen .width) (faced pen points)))
+    (strokeAlong pen (middleOf pen points))))
+
+-- ---- the calls
+
+abbrev pub arePlaces : List PathPoint → Bool
+arePlaces [] = true
+arePlaces (point ∷ rest) = isPlace (point .pos) && arePlaces rest
+
+abbrev pub strokeAllowed : Pen → List PathPoint → Bool
+strokeAllowed pen points = isDistance (pen .width) && (isDistance (pen .feathering) && arePlaces points)
+
+abbrev pub strokeOutcome : Pen → Held PathPoint → MeshState → Outcome
+strokeOutcome pen path mesh = outcome (strokeAllowed pen (path .used)) (strokeFigure pen (path .used)) path mesh
+
+abbrev pub strokeSizing : Pen → Held PathPoint → Answer Appended
+strokeSizing pen path = sizing (strokeAllowed pen (path .used)) (strokeFigure pen (path .used))
