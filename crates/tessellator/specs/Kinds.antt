@@ -6,6 +6,8 @@ use mathlib.Core.Logic.{_⊎_}
 use mathlib.Core.List.{List, [], _∷_, _++_}
 use Prim.Native.Nat.{ℕ, zero, suc, _+_, _*_, _-_, _<_}
 use Rattle.tessellator.specs.Triangles.{Triangle, tri, raised, Raised}
+use Rattle.tessellator.specs.declared.stroke.Style.{Style}
+use Rattle.tessellator.specs.declared.stroke.Style.the-variants.{Hard, Thin, Thick}
 
 -- f 0, f 1, .., f (k - 1), one list after the other
 abbrev pub each : ℕ → (ℕ → List Triangle) → List Triangle
@@ -53,33 +55,30 @@ plank i j = tri (2 * i) (2 * i + 1) (2 * j) ∷ tri (2 * j) (2 * i + 1) (2 * j +
 abbrev pub planks : ℕ → List Triangle
 planks n = each (n - 1) (λ i. plank i (i + 1))
 
-pub data Style : Type 0 where
-  hard thin thick : Style
-
 -- A hard stroke that is filled has the vertices of its fill after its own.
 pub data Kind : Type 0 where
   nothing hard-fill feathered-fill : Kind
   line loop filled : Style → Kind
 
 abbrev pub rows : Style → ℕ
-rows hard = 2
-rows thin = 3
-rows thick = 4
+rows Hard = 2
+rows Thin = 3
+rows Thick = 4
 
 -- the triangles of a figure of n points, by its vertices' numbers within it
 abbrev pub triangles : Kind → ℕ → List Triangle
 triangles nothing n = []
 triangles hard-fill n = polygon n
 triangles feathered-fill n = fan 2 0 n ++ (skirt (n - 1) 0 ++ each (n - 1) (λ i. skirt i (i + 1)))
-triangles (line hard) n = planks n
-triangles (line thin) n = bands 3 (n - 1)
-triangles (line thick) n = cap 0 ++ (bands 4 (n - 1) ++ cap (n - 1))
-triangles (loop hard) n = planks n ++ plank (n - 1) 0
-triangles (loop thin) n = ring 3 n
-triangles (loop thick) n = ring 4 n
-triangles (filled hard) n = (planks n ++ plank (n - 1) 0) ++ raised (2 * n) (polygon n)
-triangles (filled thin) n = ring 3 n ++ fan 3 2 n
-triangles (filled thick) n = ring 4 n ++ fan 4 3 n
+triangles (line Hard) n = planks n
+triangles (line Thin) n = bands 3 (n - 1)
+triangles (line Thick) n = cap 0 ++ (bands 4 (n - 1) ++ cap (n - 1))
+triangles (loop Hard) n = planks n ++ plank (n - 1) 0
+triangles (loop Thin) n = ring 3 n
+triangles (loop Thick) n = ring 4 n
+triangles (filled Hard) n = (planks n ++ plank (n - 1) 0) ++ raised (2 * n) (polygon n)
+triangles (filled Thin) n = ring 3 n ++ fan 3 2 n
+triangles (filled Thick) n = ring 4 n ++ fan 4 3 n
 
 -- how many vertices it has
 abbrev pub size : Kind → ℕ → ℕ
@@ -88,9 +87,9 @@ size hard-fill n = n
 size feathered-fill n = 2 * n
 size (line s) n = rows s * n
 size (loop s) n = rows s * n
-size (filled hard) n = 2 * n + n
-size (filled thin) n = 3 * n
-size (filled thick) n = 4 * n
+size (filled Hard) n = 2 * n + n
+size (filled Thin) n = 3 * n
+size (filled Thick) n = 4 * n
 
 -- Neighbours are consecutive points, and on a ring the first and the last too; the lesser is named first.
 abbrev pub Next : ℕ → ℕ → ℕ → Type 0
@@ -108,9 +107,9 @@ abbrev pub AtEnd : ℕ → ℕ → ℕ → ℕ → ℕ → ℕ → Type 0
 AtEnd n R r q u v = (i : ℕ) × ((i ≡ 0) ⊎ (i + 1 ≡ n)) × (u ≡ R * i + r) × (v ≡ R * i + q)
 
 abbrev pub Ends : Style → ℕ → ℕ → ℕ → Type 0
-Ends hard n u v = AtEnd n 2 0 1 u v
-Ends thin n u v = AtEnd n 3 0 1 u v ⊎ AtEnd n 3 1 2 u v
-Ends thick n u v = AtEnd n 4 0 3 u v
+Ends Hard n u v = AtEnd n 2 0 1 u v
+Ends Thin n u v = AtEnd n 3 0 1 u v ⊎ AtEnd n 3 1 2 u v
+Ends Thick n u v = AtEnd n 4 0 3 u v
 
 abbrev pub Sides : (ℕ → ℕ → Type 0) → Style → ℕ → ℕ → Type 0
 Sides Near s u v = InRow Near (rows s) 0 u v ⊎ InRow Near (rows s) (rows s - 1) u v
@@ -122,9 +121,9 @@ Rim hard-fill n u v = InRow (Around n) 1 0 u v
 Rim feathered-fill n u v = InRow (Around n) 2 1 u v
 Rim (line s) n u v = Sides (Next n) s u v ⊎ Ends s n u v
 Rim (loop s) n u v = Sides (Around n) s u v
-Rim (filled hard) n u v = Sides (Around n) hard u v ⊎ Raised (2 * n) (InRow (Around n) 1 0) u v
-Rim (filled thin) n u v = InRow (Around n) 3 0 u v
-Rim (filled thick) n u v = InRow (Around n) 4 0 u v
+Rim (filled Hard) n u v = Sides (Around n) Hard u v ⊎ Raised (2 * n) (InRow (Around n) 1 0) u v
+Rim (filled Thin) n u v = InRow (Around n) 3 0 u v
+Rim (filled Thick) n u v = InRow (Around n) 4 0 u v
 
 -- the fewest points that it is drawn from; a hard stroke of two points has no fill, so it is a loop
 abbrev pub least : Kind → ℕ
@@ -133,9 +132,9 @@ least hard-fill = 3
 least feathered-fill = 3
 least (line s) = 2
 least (loop s) = 2
-least (filled hard) = 3
-least (filled thin) = 2
-least (filled thick) = 2
+least (filled Hard) = 3
+least (filled Thin) = 2
+least (filled Thick) = 2
 
 -- the fewest points that the promise speaks of: a closed stroke of two points folds onto itself
 abbrev pub fewest : Kind → ℕ

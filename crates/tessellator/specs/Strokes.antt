@@ -1,7 +1,7 @@
 -- The figures of strokes.
 use mathlib.Core.Bool.{Bool, true, false, not, cond, _&&_, _||_}
 use mathlib.Core.List.{List, [], _∷_, _++_, map}
-use Prim.Native.Nat.{ℕ, _-_}
+use Prim.Native.Nat.{ℕ, _+_, _-_, _*_, _≤_}
 use lib.Dec.{ltb}
 use lib.Ieee.{Float, binary32, ofBits, sub, mul, div, neg, le, lt, eq}
 use lib.ListN.{length, take, drop}
@@ -19,17 +19,20 @@ use Rattle.path.specs.declared.point.Side.the-variants.{Outward, Along, Inward,
 use Rattle.tessellator.specs.Boxes.{strokeBox}
 use Rattle.tessellator.specs.Colors.{transparent, isTransparent}
 use Rattle.tessellator.specs.Fills.{fillFigure, half}
-use Rattle.tessellator.specs.Kinds.{Kind, Style, hard, thin, thick, line, loop, filled}
+use Rattle.tessellator.specs.Kinds.{Kind, line, loop, filled, rows}
 use Rattle.tessellator.specs.Outcome.{Figure, Outcome, nothing, shaped, outcome, sizing}
 use Rattle.tessellator.specs.Rows.{rowVertices}
-use Rattle.tessellator.specs.State.{MeshState}
+use Rattle.tessellator.specs.State.{MeshState, vertexRoom, indexRoom}
 use Rattle.tessellator.specs.Turns.{turned}
 use Rattle.tessellator.specs.declared.color.Color32.{Color32}
 use Rattle.tessellator.specs.declared.fault.Appended.{Appended}
 use Rattle.tessellator.specs.declared.row.Paint.the-variants.{Flat, Core, Faded}
 use Rattle.tessellator.specs.declared.row.Row.{Row}
+use Rattle.tessellator.specs.declared.stroke.PathStroke.{PathStroke}
 use Rattle.tessellator.specs.declared.stroke.StrokeKind.{StrokeKind}
 use Rattle.tessellator.specs.declared.stroke.StrokeKind.the-variants.{Inside, Middle, Outside}
+use Rattle.tessellator.specs.declared.stroke.Style.{Style}
+use Rattle.tessellator.specs.declared.stroke.Style.the-variants.{Hard, Thin, Thick}
 use Rattle.tessellator.specs.declared.vertex.Vertex.{Vertex}
 
 -- ---- the rows beside the path
@@ -66,9 +69,10 @@ hardRows width =
     record { side = Outward (div binary32 width plane.two); paint = Core }
     ∷ record { side = Inward (div binary32 width plane.two); paint = Core } ∷ []
 
--- at most 0.9 of the feathering
-abbrev pub isThin : Float → Float → Bool
-isThin feathering width = le width (mul binary32 (ofBits binary32 0x3F66_6666) feathering)
+-- without feathering hard, else thin up to 0.9 of the feathering
+abbrev pub styleOf : Float → Float → Style
+styleOf feathering width =
+    cond (lt plane.zero feathering) (cond (le width (mul binary32 (ofBits binary32 0x3F66_6666) feathering)) Thin Thick) Hard
 
 -- ---- what a stroke is drawn with
 
@@ -87,9 +91,9 @@ isLoop (around fill) = true
 
 -- a hard stroke of two points has no fill within
 abbrev pub filledKind : Style → ℕ → Kind
-filledKind hard n = cond (ltb n 3) (loop hard) (filled hard)
-filledKind thin n = filled thin
-filledKind thick n = filled thick
+filledKind Hard n = cond (ltb n 3) (loop Hard) (filled Hard)
+filledKind Thin n = filled Thin
+filledKind Thick n = filled Thick
 
 abbrev pub kindOf : Style → Course → ℕ → Kind
 kindOf style unjoined n = line style
@@ -145,40 +149,63 @@ swollen pen points =
     cond (isTransparent (fillOf (pen .course))) points
     (cond (lt (pen .width) (pen .feathering)) (map (moved (Outward (half (sub binary32 (pen .feathering) (pen .width))))) points) points)
 
+-- the vertices of a thick line, whose ends are feathered too
+abbrev pub thickLine : Float → Float → (Pos2 → Color32) → List PathPoint → List Vertex
+thickLine feathering width rule points =
+    rowVertices rule (endRows feathering width feathering) (take 1 points)
+    ++ (rowVertices rule (thickRows feathering width transparent) (take (length points - 2) (drop 1 points))
+    ++ rowVertices rule (endRows feathering width (neg feathering)) (drop (length points - 1) points))
+
+-- an open line over points that lie in its middle
+abbrev pub lineIn : Style → Float → Float → (Pos2 → Color32) → List PathPoint → Figure
+lineIn Hard feathering width rule points = shaped (line Hard) points (rowVertices rule (hardRows width) points)
+lineIn Thin feathering width rule points = shaped (line Thin) points (rowVertices rule (thinRows feathering width transparent) points)
+lineIn Thick feathering width rule points = shaped (line Thick) points (thickLine feathering width rule points)
+
+-- how many indices a line of n points has
+abbrev pub lineIndices : Style → ℕ → ℕ
+lineIndices Hard n = 6 * (n - 1)
+lineIndices Thin n = 12 * (n - 1)
+lineIndices Thick n = 18 * (n - 1) + 12
+
+-- there is space for a line of n points
+pub record LineFits (style : Style) (n : ℕ) (m : MeshState) : Type 0 where
+  pub vertices : rows style * n ≤ vertexRoom m
+  pub indices : lineIndices style n ≤ indexRoom m
+
 abbrev pub thinStroke : Pen → List PathPoint → Figure
 thinStroke pen points =
-    shaped (kindOf thin (pen .course) (length points)) (swollen pen points)
+    shaped (kindOf Thin (pen .course) (length points)) (swollen pen points)
     (rowVertices (ruleOn pen points) (thinRows (pen .feathering) (pen .width) (fillOf (pen .course))) (swollen pen points))
 
-abbrev pub thickLine : Pen → (Pos2 → Color32) → List PathPoint → List Vertex
-thickLine pen rule points =
-    rowVertices rule (endRows (pen .feathering) (pen .width) (pen .feathering)) (take 1 points)
-    ++ (rowVertices rule (thickRows (pen .feathering) (pen .width) transparent) (take (length points - 2) (drop 1 points))
-    ++ rowVertices rule (endRows (pen .feathering) (pen .width) (neg (pen .feathering))) (drop (length points - 1) points))
-
 abbrev pub thickVertices : Course → Pen → (Pos2 → Color32) → List PathPoint → List Vertex
-thickVertices unjoined pen rule points = thickLine pen rule points
+thickVertices unjoined pen rule points = thickLine (pen .feathering) (pen .width) rule points
 thickVertices (around fill) pen rule points = rowVertices rule (thickRows (pen .feathering) (pen .width) fill) points
 
 abbrev pub thickStroke : Pen → List PathPoint → Figure
 thickStroke pen points =
-    shaped (kindOf thick (pen .course) (length points)) points (thickVertices (pen .course) pen (ruleOn pen points) points)
+    shaped (kindOf Thick (pen .course) (length points)) points (thickVertices (pen .course) pen (ruleOn pen points) points)
 
 -- the points of a visible fill within a hard stroke, whose vertices follow the stroke's
 abbrev pub hardInside : Pen → List PathPoint → List PathPoint
 hardInside pen points = cond (isTransparent (fillOf (pen .course))) points (map (moved (Inward (half (pen .width)))) points)
 
+abbrev pub hardVertices : Course → Pen → (Pos2 → Color32) → List PathPoint → List Vertex
+hardVertices unjoined pen rule points = rowVertices rule (hardRows (pen .width)) points
+hardVertices (around fill) pen rule points = rowVertices rule (hardRows (pen .width)) points ++ fillFigure plane.zero fill (hardInside pen points) .vertices
+
 abbrev pub hardStroke : Pen → List PathPoint → Figure
 hardStroke pen points =
-    shaped (kindOf hard (pen .course) (length points)) (hardInside pen points)
-    (rowVertices (ruleOn pen points) (hardRows (pen .width)) points ++ fillFigure plane.zero (fillOf (pen .course)) (hardInside pen points) .vertices)
+    shaped (kindOf Hard (pen .course) (length points)) (hardInside pen points) (hardVertices (pen .course) pen (ruleOn pen points) points)
+
+abbrev pub strokeIn : Style → Pen → List PathPoint → Figure
+strokeIn Hard pen points = hardStroke pen points
+strokeIn Thin pen points = thinStroke pen points
+strokeIn Thick pen points = thickStroke pen points
 
 -- a stroke over points that lie in its middle
 abbrev pub strokeAlong : Pen → List PathPoint → Figure
-strokeAlong pen points =
-    cond (lt plane.zero (pen .feathering))
-    (cond (isThin (pen .feathering) (pen .width)) (thinStroke pen points) (thickStroke pen points))
-    (hardStroke pen points)
+strokeAlong pen points = strokeIn (styleOf (pen .feathering) (pen .width)) pen points
 
 -- fewer than two points give nothing, and a stroke of no width or of no colour gives only the fill
 abbrev pub strokeFigure : Pen → List PathPoint → Figure
@@ -189,6 +216,16 @@ strokeFigure pen points =
     (strokeAlong pen (middleOf pen points))))
 
 -- ---- the calls
+
+-- an open line with a colour rule's meaning
+abbrev pub openPen : {C : Type 0} → (C → Rect → Pos2 → Color32) → (C → Option Color32) → Float → PathStroke C → Pen
+openPen colour plain feathering stroke = record {
+    feathering = feathering;
+    width = stroke .width;
+    kind = stroke .kind;
+    course = unjoined;
+    colour = colour (stroke .color);
+    plain = plain (stroke .color) }
 
 abbrev pub arePlaces : List PathPoint → Bool
 arePlaces [] = true

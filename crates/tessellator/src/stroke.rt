@@ -1,4 +1,7 @@
 //! Strokes.
+pub mod draw;
+pub mod open;
+pub mod rows;
 
 /// Where a stroke lies beside its path.
 #[derive(Clone, Copy)]
@@ -14,4 +17,12 @@ pub struct PathStroke<C> {
     pub width: f32,
     pub color: C,
     pub kind: StrokeKind,
+}
+
+/// How a stroke is drawn: without feathering, as a faded ridge, or with feathered sides.
+#[derive(Clone, Copy)]
+pub enum Style {
+    Hard,
+    Thin,
+    Thick,
 }

@@ -1,0 +1,4 @@
+pub mod Growth
+pub mod Joining
+pub mod Lined
+pub mod Writes

@@ -1,0 +1,1 @@
+//! Stroking a path as an open line.
