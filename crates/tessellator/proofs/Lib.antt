@@ -1,4 +1,5 @@
 pub mod Growth
 pub mod Joining
 pub mod Lined
+pub mod Opened
 pub mod Writes

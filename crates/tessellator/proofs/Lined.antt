@@ -28,10 +28,18 @@ length-thick feathering width rule points h =
     let first = rowVertices rule (endRows feathering width feathering) (take 1 points) in
     let middle = rowVertices rule (thickRows feathering width transparent) (take (n - 2) (drop 1 points)) in
     let last = rowVertices rule (endRows feathering width (neg feathering)) (drop (n - 1) points) in
-    omega (arith, length-append first (middle ++ last), length-append middle last,
-      length-rows rule (endRows feathering width feathering) (take 1 points), length-take 1 points,
-      length-rows rule (thickRows feathering width transparent) (take (n - 2) (drop 1 points)), length-take (n - 2) (drop 1 points), length-drop 1 points,
-      length-rows rule (endRows feathering width (neg feathering)) (drop (n - 1) points), length-drop (n - 1) points)
+    omega (
+      arith,
+      length-append first (middle ++ last),
+      length-append middle last,
+      length-rows rule (endRows feathering width feathering) (take 1 points),
+      length-take 1 points,
+      length-rows rule (thickRows feathering width transparent) (take (n - 2) (drop 1 points)),
+      length-take (n - 2) (drop 1 points),
+      length-drop 1 points,
+      length-rows rule (endRows feathering width (neg feathering)) (drop (n - 1) points),
+      length-drop (n - 1) points,
+    )
 
 pub line-vertices : (style : Style) (feathering width : Float) (rule : Pos2 → Color32) (points : List PathPoint) → 2 ≤ length points →
     length (lineIn style feathering width rule points .vertices) ≡ rows style * length points
@@ -43,8 +51,12 @@ pub line-indices : (style : Style) (n : ℕ) → 3 * length (triangles (line sty
 line-indices Hard n = omega (arith, length-each (λ i. plank i (i + 1)) 2 (λ i. refl) (n - 1))
 line-indices Thin n = omega (arith, length-each (λ i. band 3 i (i + 1)) 4 (λ i. refl) (n - 1))
 line-indices Thick n =
-    omega (arith, length-append (cap 0) (bands 4 (n - 1) ++ cap (n - 1)), length-append (bands 4 (n - 1)) (cap (n - 1)),
-      length-each (λ i. band 4 i (i + 1)) 6 (λ i. refl) (n - 1))
+    omega (
+      arith,
+      length-append (cap 0) (bands 4 (n - 1) ++ cap (n - 1)),
+      length-append (bands 4 (n - 1)) (cap (n - 1)),
+      length-each (λ i. band 4 i (i + 1)) 6 (λ i. refl) (n - 1),
+    )
 
 abbrev sized : ℕ → ℕ → Appended
 sized vertices indices = record { vertices = vertices; indices = indices }
@@ -105,8 +117,14 @@ module _ (feathering width : Float) (rule : Pos2 → Color32) (points : List Pat
         let also = ap (λ k. length (take (length points - 1 - 1) (drop 1 points)) * k) (ap length between) in
         let long = length-append front rest in
         let left = vertex-room-left m m₂ _ both 4
-            (omega (arith, length-rows rule first (take 1 points), length-take 1 points,
-              length-rows rule middle (take (length points - 1 - 1) (drop 1 points)), length-take (length points - 1 - 1) (drop 1 points), length-drop 1 points)) in
+        (omega (
+          arith,
+          length-rows rule first (take 1 points),
+          length-take 1 points,
+          length-rows rule middle (take (length points - 1 - 1) (drop 1 points)),
+          length-take (length points - 1 - 1) (drop 1 points),
+          length-drop 1 points,
+        )) in
         let end = ap length (end-part points (omega arith)) in
         let too = ap (λ k. length (take (length points - (length points - 1)) (drop (length points - 1) points)) * k) (ap length at-last) in
         omega (arith, length-drop (length points - 1) points)
@@ -115,9 +133,9 @@ module _ (feathering width : Float) (rule : Pos2 → Color32) (points : List Pat
     thick-drawn m₃ three =
         vertices-step m m₂ m₃ _ _ _ both three refl
         ∙ ap (withVertices m)
-          (append-assoc (rowVertices rule first (take 1 points)) _ _
-          ∙ (λ i. rowVertices rule (at-first i) (take 1 points)
-              ++ (rowVertices rule (between i) (take (twice i) (drop 1 points)) ++ rowVertices rule (at-last i) (end-part points (omega arith) i))))
+        (append-assoc (rowVertices rule first (take 1 points)) _ _
+        ∙ (λ i. rowVertices rule (at-first i) (take 1 points)
+        ++ (rowVertices rule (between i) (take (twice i) (drop 1 points)) ++ rowVertices rule (at-last i) (end-part points (omega arith) i))))
       where
         twice : length points - 1 - 1 ≡ length points - 2
         twice = omega arith

@@ -40,14 +40,17 @@ three-below l i a b c n fits old ha hb hc k h =
     let f2 : i + 1 < length (set l i a) = simp length-set (omega arith) in
     let f3 : i + 2 < length (set (set l i a) (i + 1) b) = simp length-set (omega arith) in
     elim (cases-lt k i) [
-      inl lt ↦
-        let n0 : k ≢ i = omega arith in let n1 : k ≢ i + 1 = omega arith in let n2 : k ≢ i + 2 = omega arith in
-        rw (getD-set-other, getD-set-other, getD-set-other) (old k lt)
-    | inr ge ↦ elim (cases-eq k i) [
-        inl e ↦ let n1 : i ≢ i + 1 = omega arith in let n2 : i ≢ i + 2 = omega arith in rw (e, getD-set-other, getD-set-other, getD-set-same) ha
-      | inr ne ↦ elim (cases-eq k (i + 1)) [
-          inl e ↦ let n2 : i + 1 ≢ i + 2 = omega arith in rw (e, getD-set-other, getD-set-same) hb
-        | inr me ↦ let e : k ≡ i + 2 = omega arith in rw (e, getD-set-same) hc ] ] ]
+      | inl lt ↦
+          let n0 : k ≢ i = omega arith in let n1 : k ≢ i + 1 = omega arith in let n2 : k ≢ i + 2 = omega arith in
+          rw (getD-set-other, getD-set-other, getD-set-other) (old k lt)
+      | inr ge ↦ elim (cases-eq k i) [
+        | inl e ↦ let n1 : i ≢ i + 1 = omega arith in let n2 : i ≢ i + 2 = omega arith in rw (e, getD-set-other, getD-set-other, getD-set-same) ha
+        | inr ne ↦ elim (cases-eq k (i + 1)) [
+          | inl e ↦ let n2 : i + 1 ≢ i + 2 = omega arith in rw (e, getD-set-other, getD-set-same) hb
+          | inr me ↦ let e : k ≡ i + 2 = omega arith in rw (e, getD-set-same) hc
+        ]
+      ]
+    ]
 
 pub vertex-room : (m : Mesh) (k : ℕ) → k ≤ vertexRoom (meshState m) → (m .«vertex_count» + k ≤ length (now (m .vertices))) × (m .«vertex_count» + k ≤ 16777216)
 unfolding vertexRoom
@@ -67,7 +70,6 @@ index-room m k h =
 
 pub vertices-counted : (m : Mesh) → length (meshState m .vertices) ≡ m .«vertex_count»
 vertices-counted m = let fit = m .«vertices_fit» in simp length-take (omega arith)
-
 
 pub vertex-room-is : (m : Mesh) → min (length (now (m .vertices))) 16777216 - m .«vertex_count» ≡ vertexRoom (meshState m)
 unfolding vertexRoom

@@ -63,6 +63,11 @@ pathAfter figure path = rewritten path (figure .points)
 abbrev pub meshAfter : Figure → MeshState → MeshState
 meshAfter figure mesh = appended mesh (figure .vertices) (trianglesOf figure)
 
+-- what a draw that is not refused makes of a path and a mesh
+pub record Drawn (figure : Figure) (p : Held PathPoint) (m : MeshState) (p′ : Held PathPoint) (m′ : MeshState) : Type 0 where
+  pub path : p′ ≡ pathAfter figure p
+  pub mesh : m′ ≡ meshAfter figure m
+
 abbrev pub drawn : Figure → Held PathPoint → MeshState → Outcome
 drawn figure path mesh = record { answer = told (Ok (sizeOf figure)); path = pathAfter figure path; mesh = meshAfter figure mesh }
 

@@ -19,11 +19,12 @@ pub record MeshState : Type 0 where
 -- so many vertices and indices of the memory are in use
 abbrev pub heldIn : ℕ → List Vertex → ℕ → List ℕ → TextureId → MeshState
 heldIn v vertices i indices texture = record {
-    vertices = take v vertices;
-    unusedVertices = drop v vertices;
-    indices = take i indices;
-    unusedIndices = drop i indices;
-    texture = texture }
+  vertices = take v vertices;
+  unusedVertices = drop v vertices;
+  indices = take i indices;
+  unusedIndices = drop i indices;
+  texture = texture;
+}
 
 abbrev pub meshState : Mesh → MeshState
 meshState m = heldIn (m .«vertex_count») (now (m .vertices)) (m .«index_count») (now (m .indices)) (m .«texture_id»)
@@ -37,20 +38,22 @@ emptyMesh vertices indices texture = record { vertices = []; unusedVertices = ve
 
 unfoldable pub withVertices : MeshState → List Vertex → MeshState
 withVertices m vs = record {
-    vertices = m .vertices ++ vs;
-    unusedVertices = drop (length vs) (m .unusedVertices);
-    indices = m .indices;
-    unusedIndices = m .unusedIndices;
-    texture = m .texture }
+  vertices = m .vertices ++ vs;
+  unusedVertices = drop (length vs) (m .unusedVertices);
+  indices = m .indices;
+  unusedIndices = m .unusedIndices;
+  texture = m .texture;
+}
 
 -- triangles among the vertices from `base` on
 unfoldable pub withTriangles : ℕ → MeshState → List Triangle → MeshState
 withTriangles base m triangles = record {
-    vertices = m .vertices;
-    unusedVertices = m .unusedVertices;
-    indices = m .indices ++ flat (raised base triangles);
-    unusedIndices = drop (3 * length triangles) (m .unusedIndices);
-    texture = m .texture }
+  vertices = m .vertices;
+  unusedVertices = m .unusedVertices;
+  indices = m .indices ++ flat (raised base triangles);
+  unusedIndices = drop (3 * length triangles) (m .unusedIndices);
+  texture = m .texture;
+}
 
 -- A figure comes after what the mesh has: its vertex numbers are raised by the old vertex count.
 abbrev pub appended : MeshState → List Vertex → List Triangle → MeshState

@@ -220,12 +220,13 @@ strokeFigure pen points =
 -- an open line with a colour rule's meaning
 abbrev pub openPen : {C : Type 0} → (C → Rect → Pos2 → Color32) → (C → Option Color32) → Float → PathStroke C → Pen
 openPen colour plain feathering stroke = record {
-    feathering = feathering;
-    width = stroke .width;
-    kind = stroke .kind;
-    course = unjoined;
-    colour = colour (stroke .color);
-    plain = plain (stroke .color) }
+  feathering = feathering;
+  width = stroke .width;
+  kind = stroke .kind;
+  course = unjoined;
+  colour = colour (stroke .color);
+  plain = plain (stroke .color);
+}
 
 abbrev pub arePlaces : List PathPoint → Bool
 arePlaces [] = true

@@ -114,7 +114,10 @@ impl<'a> Path<'a> {
             normal = turn.normal;
             at = *next;
         }
-        self.push(PathPoint { pos: at, normal: edge });
+        self.push(PathPoint {
+            pos: at,
+            normal: edge,
+        });
     }
 
     fn push_corner(&mut self, at: Pos2, corner: Corner)
@@ -124,8 +127,14 @@ impl<'a> Path<'a> {
         match corner {
             Corner::Mitre(normal) => self.push(PathPoint { pos: at, normal }),
             Corner::Cut(before, after) => {
-                self.push(PathPoint { pos: at, normal: before });
-                self.push(PathPoint { pos: at, normal: after });
+                self.push(PathPoint {
+                    pos: at,
+                    normal: before,
+                });
+                self.push(PathPoint {
+                    pos: at,
+                    normal: after,
+                });
             }
         }
     }

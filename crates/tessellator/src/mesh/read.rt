@@ -7,7 +7,11 @@ use crate::vertex::Vertex;
 
 impl<'a> Mesh<'a> {
     /// An empty mesh in lent memory.
-    pub fn with_texture(texture_id: TextureId, vertices: &'a mut [Vertex], indices: &'a mut [u32]) -> Mesh<'a>
+    pub fn with_texture(
+        texture_id: TextureId,
+        vertices: &'a mut [Vertex],
+        indices: &'a mut [u32],
+    ) -> Mesh<'a>
         ensures { λ r. ⌜ meshState r ≡ emptyMesh (now (vertices .entry)) (now (indices .entry)) «texture_id» ⌝ }
     {
         Mesh {

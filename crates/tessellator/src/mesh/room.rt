@@ -8,6 +8,7 @@ use crate::fault::Appended;
 use crate::fault::FigureFault;
 
 const MAX_VERTICES: usize = 16_777_216;
+
 const MAX_INDICES: usize = 100_663_296;
 
 impl<'a> Mesh<'a> {

@@ -21,13 +21,22 @@ impl Row {
         match self.paint {
             Paint::Flat(color) => Vertex::untextured(pos, color),
             Paint::Core => Vertex::untextured(pos, rule.color_at(bounds, pos)),
-            Paint::Faded(factor) => Vertex::untextured(pos, rule.color_at(bounds, pos).faded(factor)),
+            Paint::Faded(factor) => Vertex::untextured(
+                pos,
+                rule.color_at(bounds, pos).faded(factor),
+            ),
         }
     }
 }
 
 impl<'a> Mesh<'a> {
-    fn add_vertices_at<C: ColorRule>(&mut self, point: PathPoint, rows: &[Row], rule: &C, bounds: Rect)
+    fn add_vertices_at<C: ColorRule>(
+        &mut self,
+        point: PathPoint,
+        rows: &[Row],
+        rule: &C,
+        bounds: Rect,
+    )
         requires { ⌜ length (now rows) ≤ vertexRoom (meshState (now self)) ⌝ }
         ensures { λ _. ⌜ meshState (now (self .exit)) ≡ withVertices (meshState (now (self .entry))) (verticesAt (colour (now (rule .entry)) bounds) (now (rows .entry)) point) ⌝ }
     {
@@ -37,7 +46,13 @@ impl<'a> Mesh<'a> {
     }
 
     /// The vertices of all rows at each point.
-    pub(crate) fn add_rows<C: ColorRule>(&mut self, points: &[PathPoint], rows: &[Row], rule: &C, bounds: Rect)
+    pub(crate) fn add_rows<C: ColorRule>(
+        &mut self,
+        points: &[PathPoint],
+        rows: &[Row],
+        rule: &C,
+        bounds: Rect,
+    )
         requires { ⌜ length (now points) * length (now rows) ≤ vertexRoom (meshState (now self)) ⌝ }
         ensures { λ _. ⌜ meshState (now (self .exit)) ≡ withVertices (meshState (now (self .entry))) (rowVertices (colour (now (rule .entry)) bounds) (now (rows .entry)) (now (points .entry))) ⌝ }
     {

@@ -39,7 +39,14 @@ fn box_for<C: ColorRule>(points: &[PathPoint], feathering: f32, width: f32, rule
 }
 
 /// Two rows, and planks between them.
-fn draw_hard<C: ColorRule>(points: &[PathPoint], feathering: f32, width: f32, rule: &C, bounds: Rect, out: &mut Mesh)
+fn draw_hard<C: ColorRule>(
+    points: &[PathPoint],
+    feathering: f32,
+    width: f32,
+    rule: &C,
+    bounds: Rect,
+    out: &mut Mesh,
+)
     requires { ⌜ 2 ≤ length (now points) ⌝ }
     requires { ⌜ strokes.LineFits Hard (length (now points)) (meshState (now out)) ⌝ }
     ensures { λ _. ⌜ meshState (now (out .exit)) ≡ meshAfter (strokes.lineIn Hard feathering width (colour (now (rule .entry)) bounds) (now (points .entry))) (meshState (now (out .entry))) ⌝ }
@@ -50,30 +57,71 @@ fn draw_hard<C: ColorRule>(points: &[PathPoint], feathering: f32, width: f32, ru
 }
 
 /// Three rows, the middle one faded, and bands between them.
-fn draw_thin<C: ColorRule>(points: &[PathPoint], feathering: f32, width: f32, rule: &C, bounds: Rect, out: &mut Mesh)
+fn draw_thin<C: ColorRule>(
+    points: &[PathPoint],
+    feathering: f32,
+    width: f32,
+    rule: &C,
+    bounds: Rect,
+    out: &mut Mesh,
+)
     requires { ⌜ 2 ≤ length (now points) ⌝ }
     requires { ⌜ strokes.LineFits Thin (length (now points)) (meshState (now out)) ⌝ }
     ensures { λ _. ⌜ meshState (now (out .exit)) ≡ meshAfter (strokes.lineIn Thin feathering width (colour (now (rule .entry)) bounds) (now (points .entry))) (meshState (now (out .entry))) ⌝ }
 {
     let base = out.next_vertex();
-    out.add_rows(points, &rows::thin_rows(feathering, width, Color32::TRANSPARENT), rule, bounds);
+    out.add_rows(
+        points,
+        &rows::thin_rows(feathering, width, Color32::TRANSPARENT),
+        rule,
+        bounds,
+    );
     out.add_bands(base, 3, points.len() as u32);
 }
 
 /// The rows of a thick line: at its ends the outer ones lie further out.
-fn add_thick_rows<C: ColorRule>(points: &[PathPoint], feathering: f32, width: f32, rule: &C, bounds: Rect, out: &mut Mesh)
+fn add_thick_rows<C: ColorRule>(
+    points: &[PathPoint],
+    feathering: f32,
+    width: f32,
+    rule: &C,
+    bounds: Rect,
+    out: &mut Mesh,
+)
     requires { ⌜ 2 ≤ length (now points) ⌝ }
     requires { ⌜ length (now points) * 4 ≤ vertexRoom (meshState (now out)) ⌝ }
     ensures { λ _. ⌜ meshState (now (out .exit)) ≡ withVertices (meshState (now (out .entry))) (strokes.thickLine feathering width (colour (now (rule .entry)) bounds) (now (points .entry))) ⌝ }
 {
     let last = points.len() - 1;
-    out.add_rows(&points[0..1], &rows::end_rows(feathering, width, feathering), rule, bounds);
-    out.add_rows(&points[1..last], &rows::thick_rows(feathering, width, Color32::TRANSPARENT), rule, bounds);
-    out.add_rows(&points[last..], &rows::end_rows(feathering, width, -feathering), rule, bounds);
+    out.add_rows(
+        &points[0..1],
+        &rows::end_rows(feathering, width, feathering),
+        rule,
+        bounds,
+    );
+    out.add_rows(
+        &points[1..last],
+        &rows::thick_rows(feathering, width, Color32::TRANSPARENT),
+        rule,
+        bounds,
+    );
+    out.add_rows(
+        &points[last..],
+        &rows::end_rows(feathering, width, -feathering),
+        rule,
+        bounds,
+    );
 }
 
 /// Four rows, bands between them, and two triangles at each end.
-fn draw_thick<C: ColorRule>(points: &[PathPoint], feathering: f32, width: f32, rule: &C, bounds: Rect, out: &mut Mesh)
+fn draw_thick<C: ColorRule>(
+    points: &[PathPoint],
+    feathering: f32,
+    width: f32,
+    rule: &C,
+    bounds: Rect,
+    out: &mut Mesh,
+)
     requires { ⌜ 2 ≤ length (now points) ⌝ }
     requires { ⌜ strokes.LineFits Thick (length (now points)) (meshState (now out)) ⌝ }
     ensures { λ _. ⌜ meshState (now (out .exit)) ≡ meshAfter (strokes.lineIn Thick feathering width (colour (now (rule .entry)) bounds) (now (points .entry))) (meshState (now (out .entry))) ⌝ }
@@ -87,7 +135,12 @@ fn draw_thick<C: ColorRule>(points: &[PathPoint], feathering: f32, width: f32, r
 }
 
 /// Draws a line over points that lie in its middle.
-pub(crate) fn draw_along<C: ColorRule>(points: &[PathPoint], feathering: f32, stroke: &PathStroke<C>, out: &mut Mesh)
+pub(crate) fn draw_along<C: ColorRule>(
+    points: &[PathPoint],
+    feathering: f32,
+    stroke: &PathStroke<C>,
+    out: &mut Mesh,
+)
     requires { ⌜ 2 ≤ length (now points) ⌝ }
     requires { ⌜ strokes.LineFits (strokes.styleOf feathering (now stroke .width)) (length (now points)) (meshState (now out)) ⌝ }
     ensures { λ _. ⌜ meshState (now (out .exit)) ≡ meshAfter (strokes.strokeAlong (strokes.openPen colour plain feathering (now (stroke .entry))) (now (points .entry))) (meshState (now (out .entry))) ⌝ }

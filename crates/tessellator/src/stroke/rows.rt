@@ -36,8 +36,14 @@ pub(crate) fn hard_rows(width: f32) -> [Row; 2]
 {
     let radius = width / 2.0;
     [
-        Row { side: Side::Outward(radius), paint: Paint::Core },
-        Row { side: Side::Inward(radius), paint: Paint::Core },
+        Row {
+            side: Side::Outward(radius),
+            paint: Paint::Core,
+        },
+        Row {
+            side: Side::Inward(radius),
+            paint: Paint::Core,
+        },
     ]
 }
 
@@ -45,9 +51,18 @@ pub(crate) fn thin_rows(feathering: f32, width: f32, fill: Color32) -> [Row; 3]
     ensures { λ r. ⌜ r ≡ strokes.thinRows feathering width fill ⌝ }
 {
     [
-        Row { side: Side::Outward(feathering), paint: Paint::Flat(Color32::TRANSPARENT) },
-        Row { side: Side::Along, paint: Paint::Faded(width / feathering) },
-        Row { side: Side::Inward(feathering), paint: Paint::Flat(fill) },
+        Row {
+            side: Side::Outward(feathering),
+            paint: Paint::Flat(Color32::TRANSPARENT),
+        },
+        Row {
+            side: Side::Along,
+            paint: Paint::Faded(width / feathering),
+        },
+        Row {
+            side: Side::Inward(feathering),
+            paint: Paint::Flat(fill),
+        },
     ]
 }
 
@@ -57,10 +72,22 @@ pub(crate) fn thick_rows(feathering: f32, width: f32, fill: Color32) -> [Row; 4]
     let inner = inner_radius(feathering, width);
     let outer = fast_midpoint(width, feathering);
     [
-        Row { side: Side::Outward(outer), paint: Paint::Flat(Color32::TRANSPARENT) },
-        Row { side: Side::Outward(inner), paint: Paint::Core },
-        Row { side: Side::Inward(inner), paint: Paint::Core },
-        Row { side: Side::Inward(outer), paint: Paint::Flat(fill) },
+        Row {
+            side: Side::Outward(outer),
+            paint: Paint::Flat(Color32::TRANSPARENT),
+        },
+        Row {
+            side: Side::Outward(inner),
+            paint: Paint::Core,
+        },
+        Row {
+            side: Side::Inward(inner),
+            paint: Paint::Core,
+        },
+        Row {
+            side: Side::Inward(outer),
+            paint: Paint::Flat(fill),
+        },
     ]
 }
 
@@ -71,9 +98,21 @@ pub(crate) fn end_rows(feathering: f32, width: f32, past: f32) -> [Row; 4]
     let inner = inner_radius(feathering, width);
     let outer = fast_midpoint(width, feathering);
     [
-        Row { side: Side::OutwardPast(outer, past), paint: Paint::Flat(Color32::TRANSPARENT) },
-        Row { side: Side::Outward(inner), paint: Paint::Core },
-        Row { side: Side::Inward(inner), paint: Paint::Core },
-        Row { side: Side::InwardPast(outer, past), paint: Paint::Flat(Color32::TRANSPARENT) },
+        Row {
+            side: Side::OutwardPast(outer, past),
+            paint: Paint::Flat(Color32::TRANSPARENT),
+        },
+        Row {
+            side: Side::Outward(inner),
+            paint: Paint::Core,
+        },
+        Row {
+            side: Side::Inward(inner),
+            paint: Paint::Core,
+        },
+        Row {
+            side: Side::InwardPast(outer, past),
+            paint: Paint::Flat(Color32::TRANSPARENT),
+        },
     ]
 }

@@ -18,9 +18,10 @@ pub loop-next-again : need.loop-next-again
 loop-next-again c =
     let here = c .loop-next in
     let more = at-drop-more (λ l. length (openCorners (here .normal) (here .normal) (here .at) l)) (c .args .rest .now) (here .next-index) (record { x = nan; y = nan }) (c .loop-next-test .taken) in
-    let turn = turn-length (here .normal) (here .normal) (here .at) _ (drop (here .next-index + 1) (c .args .rest .now)) _ _ (c .edge-normal .ensures) (c .turn-between-turn .ensures) in
-    (omega (arith, here .inv .0, more, turn, c .corner-count-count .ensures),
-    omega (arith, corner-counts (c .turn-between-turn .result .corner) .1, c .corner-count-count .ensures))
+    let turn = turn-length (here .normal) (here .normal) (here .at) _ (drop (here .next-index + 1) (c .args .rest .now)) _ _ (c .edge-normal .ensures) (c .turn-between-turn .ensures) in (
+      omega (arith, here .inv .0, more, turn, c .corner-count-count .ensures),
+      omega (arith, corner-counts (c .turn-between-turn .result .corner) .1, c .corner-count-count .ensures),
+    )
 
 pub returns : need.returns
 returns c =

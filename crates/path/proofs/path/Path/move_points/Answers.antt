@@ -16,10 +16,11 @@ loop-i-again c =
     let i = c .loop-i .i in
     let before = c .args .self .now in
     let there : i < length (now (before .points)) = omega (arith, before .fit) in
-    let here : i < length memory = omega (arith, c .loop-i .self .fit) in
-    (ap (set memory i) (c .moved .ensures)
-    ∙ map-over-more (moved (c .args .side)) (now (before .points)) memory i _ there (c .loop-i .inv .0) (getD-default memory i _ _ here),
-    c .loop-i .inv .1)
+    let here : i < length memory = omega (arith, c .loop-i .self .fit) in (
+      ap (set memory i) (c .moved .ensures)
+          ∙ map-over-more (moved (c .args .side)) (now (before .points)) memory i _ there (c .loop-i .inv .0) (getD-default memory i _ _ here),
+      c .loop-i .inv .1,
+    )
 
 pub returns : need.returns
 returns c =

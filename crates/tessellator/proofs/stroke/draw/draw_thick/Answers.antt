@@ -27,9 +27,12 @@ add-bands-requires g c κs =
     let long = length-thick (c .args .feathering) (c .args .width) (g .C·ColorRule .colour (c .args .rule .now) (c .args .bounds)) (c .args .points .now) (c .pre .0) in
     let added = vertices-added (meshState (c .args .out .now)) (meshState (c .add-thick-rows .last .out)) _ (c .add-thick-rows .ensures) in
     let kept = index-room-kept (meshState (c .args .out .now)) (meshState (c .add-thick-rows .last .out)) _ (c .add-thick-rows .ensures) in
-    let same = vertices-kept (meshState (c .add-thick-rows .last .out)) (meshState (c .add-cap .last .self)) _ _ (c .add-cap .ensures) in
-    (omega (arith, c .pre .0), omega arith, omega arith,
-    index-room-left (meshState (c .add-thick-rows .last .out)) (meshState (c .add-cap .last .self)) _ _ (c .add-cap .ensures) _ (omega (arith, c .pre .1 .indices)))
+    let same = vertices-kept (meshState (c .add-thick-rows .last .out)) (meshState (c .add-cap .last .self)) _ _ (c .add-cap .ensures) in (
+      omega (arith, c .pre .0),
+      omega arith,
+      omega arith,
+      index-room-left (meshState (c .add-thick-rows .last .out)) (meshState (c .add-cap .last .self)) _ _ (c .add-cap .ensures) _ (omega (arith, c .pre .1 .indices)),
+    )
 
 pub add-cap-requires-2 : need.add-cap-requires-2
 add-cap-requires-2 g c κs =
