@@ -52,7 +52,7 @@ pub triangles-none : (base : ℕ) (m : MeshState) → m ≡ withTriangles base m
 unfolding withTriangles
 triangles-none base m = simp append-nil
 
-length-flat : (ts : List Triangle) → length (flat ts) ≡ 3 * length ts
+pub length-flat : (ts : List Triangle) → length (flat ts) ≡ 3 * length ts
 length-flat [] = refl
 length-flat (tri x y z ∷ ts) = let e = length-flat ts in omega arith
 

@@ -1,3 +1,4 @@
+pub mod Answered
 pub mod Growth
 pub mod Joining
 pub mod Lined

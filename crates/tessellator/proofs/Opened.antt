@@ -8,22 +8,24 @@ use lib.Ieee.{Float, eq}
 use lib.ListN.{length}
 use Rattle.std.specs.declared.option.Option.{Option}
 use Rattle.std.proofs.shelf.Lists.{length-map}
-use Rattle.std.proofs.shelf.Tests.{cond-true, cond-false, lt-ltb, le-ltb}
+use Rattle.std.proofs.shelf.Tests.{cond-true, cond-false, cond-both, lt-ltb, le-ltb}
+use Rattle.emath.specs.Answers.{Answer}
 use Rattle.emath.specs.Plane as plane
 use Rattle.emath.specs.declared.plane.Pos2.{Pos2}
 use Rattle.emath.specs.declared.rect.Rect.{Rect}
 use Rattle.path.specs.Held.{Held, rewritten}
 use Rattle.path.specs.declared.point.PathPoint.{PathPoint}
 use Rattle.tessellator.specs.Kinds.{rows}
-use Rattle.tessellator.specs.Outcome.{Figure, Fits, Drawn, nothing, sizeOf, meshAfter}
+use Rattle.tessellator.specs.Outcome.{Figure, Fits, Drawn, Outcome, Grows, Sized, nothing, sizeOf, meshAfter}
 use Rattle.tessellator.specs.State.{MeshState, withVertices}
-use Rattle.tessellator.specs.Strokes.{Pen, unjoined, isClear, centred, shrunk, styleOf, lineIn, lineIndices, LineFits, ruleOn, strokeIn, strokeAlong, strokeFigure}
+use Rattle.tessellator.specs.Strokes.{Pen, unjoined, isClear, centred, shrunk, styleOf, lineIn, lineIndices, LineFits, ruleOn, strokeIn, strokeAlong, strokeFigure, strokeAllowed, strokeOutcome, strokeSizing}
 use Rattle.tessellator.specs.declared.color.Color32.{Color32}
 use Rattle.tessellator.specs.declared.fault.Appended.{Appended}
 use Rattle.tessellator.specs.declared.stroke.StrokeKind.{StrokeKind}
 use Rattle.tessellator.specs.declared.stroke.StrokeKind.the-variants.{Inside, Middle, Outside}
 use Rattle.tessellator.specs.declared.stroke.Style.{Style}
 use Rattle.tessellator.specs.declared.stroke.Style.the-variants.{Hard, Thin, Thick}
+use Rattle.tessellator.proofs.Answered.{outcome-grows, outcome-sized}
 use Rattle.tessellator.proofs.Growth.{vertices-none, triangles-none}
 use Rattle.tessellator.proofs.Lined.{line-size, space-for}
 
@@ -39,7 +41,7 @@ nothing-drawn figure points p p′ m e at =
     (record { path = at; mesh = vertices-none m ∙ triangles-none (length (m .vertices)) (withVertices m []) })
 
 module _ (feathering width : Float) (kind : StrokeKind) (colour : Rect → Pos2 → Color32) (plain : Option Color32) where
-  abbrev pen : Pen
+  abbrev pub pen : Pen
   pen = record { feathering = feathering; width = width; kind = kind; course = unjoined; colour = colour; plain = plain }
 
   in-style : (style : Style) (points : List PathPoint) → strokeIn style pen points ≡ lineIn style feathering width (ruleOn pen points) points
@@ -92,3 +94,34 @@ module _ (feathering width : Float) (kind : StrokeKind) (colour : Rect → Pos2 
     unfolding middle
     line-fits m fits =
         space-for feathering width (ruleOn pen middle) middle m still-many (styleOf feathering width) (subst (λ (f : Figure). Fits f m) as-line fits)
+
+length-shrunk : (kind : StrokeKind) (width : Float) (points : List PathPoint) → length (shrunk kind width points) ≡ length points
+length-shrunk Inside width points = length-map points _
+length-shrunk Middle width points = length-map points _
+length-shrunk Outside width points = refl
+
+-- an open line leaves as many points as it found
+module _ (feathering width : Float) (kind : StrokeKind) (colour : Rect → Pos2 → Color32) (plain : Option Color32) (points : List PathPoint) where
+  pub length-open : length (strokeFigure (pen feathering width kind colour plain) points .points) ≡ length points
+  length-open =
+      let Same : Figure → Type 0 = λ f. length (f .points) ≡ length points in
+      cond-both (ltb (length points) 2) _ _ Same (λ e. refl)
+      (λ e. cond-both (eq width plane.zero) _ _ Same (λ e. refl)
+      (λ e. cond-both (isClear plain) _ _ Same (λ e. length-shrunk kind width points)
+      (λ e. ap length (kept-points feathering width kind colour plain (styleOf feathering width) (centred kind width points)) ∙ length-centred kind width points)))
+
+-- what an open line's stroke keeps to, from what it leaves
+pub record Kept (answer : Answer Appended) (stroke : Pen) (p : Held PathPoint) (m : MeshState) (p′ : Held PathPoint) (m′ : MeshState) : Type 0 where
+  pub outcome : record { answer = answer; path = p′; mesh = m′ } ≡ strokeOutcome stroke p m
+  pub grows : Grows answer p m p′ m′
+  pub sized : Sized answer (strokeSizing stroke p) m
+
+module _ (feathering width : Float) (kind : StrokeKind) (colour : Rect → Pos2 → Color32) (plain : Option Color32) (answer : Answer Appended) (p p′ : Held PathPoint) (m m′ : MeshState) where
+  pub kept : record { answer = answer; path = p′; mesh = m′ } ≡ strokeOutcome (pen feathering width kind colour plain) p m → Kept answer (pen feathering width kind colour plain) p m p′ m′
+  kept e =
+      let figure = strokeFigure (pen feathering width kind colour plain) (p .used) in
+      let allowed = strokeAllowed (pen feathering width kind colour plain) (p .used) in
+      record {
+        outcome = e;
+        grows = subst (λ (o : Outcome). Grows (o .answer) p m (o .path) (o .mesh)) (sym e) (outcome-grows allowed figure p m (length-open feathering width kind colour plain (p .used)));
+        sized = subst (λ (o : Outcome). Sized (o .answer) (strokeSizing (pen feathering width kind colour plain) p) m) (sym e) (outcome-sized allowed figure p m) }

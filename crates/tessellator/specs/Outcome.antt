@@ -1,14 +1,15 @@
 -- What any draw leaves, from the figure that it stands for.
 use mathlib.Core.Path.{_≡_}
-use mathlib.Core.Bool.{Bool, cond, _||_}
+use mathlib.Core.Bool.{Bool, true, cond, _||_}
 use mathlib.Core.List.{List, []}
-use Prim.Native.Nat.{ℕ, _*_, _≤_}
+use Prim.Native.Nat.{ℕ, _+_, _*_, _≤_}
 use lib.Dec.{eqb, leb}
-use lib.ListN.{length}
+use lib.ListN.{length, take, drop}
 use Rattle.std.specs.declared.option.Option.{Option}
 use Rattle.std.specs.declared.option.Option.the-variants.{Some, None}
 use Rattle.std.specs.declared.result.Result.{Result}
 use Rattle.std.specs.declared.result.Result.the-variants.{Ok, Err}
+use Rattle.emath.specs.Answers as Answers
 use Rattle.emath.specs.Answers.{Answer}
 use Rattle.path.specs.Held.{Held, pathState, rewritten}
 use Rattle.path.specs.declared.path.Path.{Path}
@@ -95,3 +96,27 @@ outcome allowed figure path mesh = cond allowed (settled (refusalOf (sizeOf figu
 -- what sizing answers
 abbrev pub sizing : Bool → Figure → Answer Appended
 sizing allowed figure = cond allowed (told (Ok (sizeOf figure))) (told (Err OutOfLimits))
+
+-- ---- what every draw keeps to
+
+-- so much came behind what the mesh had, into the memory right behind it, and the path kept its length
+pub record Added (size : Appended) (p : Held PathPoint) (m : MeshState) (p′ : Held PathPoint) (m′ : MeshState) : Type 0 where
+  pub vertices : take (length (m .vertices)) (m′ .vertices) ≡ m .vertices
+  pub vertexCount : length (m′ .vertices) ≡ length (m .vertices) + size .vertices
+  pub unusedVertices : m′ .unusedVertices ≡ drop (size .vertices) (m .unusedVertices)
+  pub indices : take (length (m .indices)) (m′ .indices) ≡ m .indices
+  pub indexCount : length (m′ .indices) ≡ length (m .indices) + size .indices
+  pub unusedIndices : m′ .unusedIndices ≡ drop (size .indices) (m .unusedIndices)
+  pub texture : m′ .texture ≡ m .texture
+  pub pointCount : length (p′ .used) ≡ length (p .used)
+  pub unusedPoints : p′ .unused ≡ p .unused
+
+-- Accepted, a draw adds just what it answers. Refused, it changes nothing.
+abbrev pub Grows : Answer Appended → Held PathPoint → MeshState → Held PathPoint → MeshState → Type 0
+Grows (Answers.accepted size) p m p′ m′ = Added size p m p′ m′
+Grows (Answers.refused number values) p m p′ m′ = (p′ ≡ p) × (m′ ≡ m)
+
+-- A draw that is accepted answers what sizing answers; and it is accepted where sizing is, the mesh has the default texture, and there is space for what sizing answers.
+pub record Sized (answer sizing : Answer Appended) (m : MeshState) : Type 0 where
+  pub same : (size : Appended) → answer ≡ Answers.accepted size → sizing ≡ Answers.accepted size
+  pub enough : (size : Appended) → sizing ≡ Answers.accepted size → isDefault (m .texture) ≡ true → size .vertices ≤ vertexRoom m → size .indices ≤ indexRoom m → answer ≡ Answers.accepted size

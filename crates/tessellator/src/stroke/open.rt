@@ -5,7 +5,7 @@ ghost use lib.ListN.{length};
 ghost use Rattle.path.specs.Held.{pathState, rewritten};
 ghost use Rattle.tessellator.specs.Faults.{told};
 ghost use Rattle.tessellator.specs.Kinds.{rows};
-ghost use Rattle.tessellator.specs.Outcome.{Drawn, Fits, after, sizeOf};
+ghost use Rattle.tessellator.specs.Outcome.{Drawn, Fits, Grows, Sized, after, sizeOf};
 ghost use Rattle.tessellator.specs.State.{meshState};
 ghost use Rattle.tessellator.specs.Strokes as strokes;
 use super::PathStroke;
@@ -141,7 +141,9 @@ pub fn stroke_open<C: ColorRule>(
     stroke: &PathStroke<C>,
     out: &mut Mesh,
 ) -> Result<Appended, FigureFault>
-    ensures { λ r. ⌜ after r (now (path .exit)) (now (out .exit)) ≡ strokes.strokeOutcome (strokes.openPen colour plain feathering (now (stroke .entry))) (pathState (now (path .entry))) (meshState (now (out .entry))) ⌝ }
+    ensures outcome { λ r. ⌜ after r (now (path .exit)) (now (out .exit)) ≡ strokes.strokeOutcome (strokes.openPen colour plain feathering (now (stroke .entry))) (pathState (now (path .entry))) (meshState (now (out .entry))) ⌝ }
+    ensures grows { λ r. ⌜ Grows (told r) (pathState (now (path .entry))) (meshState (now (out .entry))) (pathState (now (path .exit))) (meshState (now (out .exit))) ⌝ }
+    ensures sized { λ r. ⌜ Sized (told r) (strokes.strokeSizing (strokes.openPen colour plain feathering (now (stroke .entry))) (pathState (now (path .entry)))) (meshState (now (out .entry))) ⌝ }
 {
     let size = size_of_stroke_open(path, feathering, stroke)?;
     if let Some(fault) = out.refusal(size) {
