@@ -1,0 +1,10 @@
+pub mod Counting
+pub mod Cuts
+pub mod Finished
+pub mod Lying
+pub mod Parting
+pub mod Promises
+pub mod Running
+pub mod Splitting
+pub mod Triples
+pub mod Writing

@@ -1,0 +1,6 @@
+pub mod Cutting
+pub mod Faults
+pub mod Outcome
+pub mod Parts
+pub mod Promises
+pub mod Spans
