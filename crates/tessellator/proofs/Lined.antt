@@ -2,6 +2,7 @@
 use mathlib.Core.Path.{_≡_, refl, sym, _∙_, ap}
 use mathlib.Core.List.{List, [], _∷_, _++_, append-assoc}
 use Prim.Native.Nat.{ℕ, suc, _+_, _-_, _*_, _≤_, min}
+use native.Mathlib.Nat.{mul-comm}
 use native.Mathlib.Omega.{arith}
 use lib.Ieee.{Float, neg}
 use lib.ListN.{length, take, drop, length-append, length-take, length-drop}
@@ -19,7 +20,7 @@ use Rattle.tessellator.specs.declared.fault.Appended.{Appended}
 use Rattle.tessellator.specs.declared.row.Row.{Row}
 use Rattle.tessellator.specs.declared.stroke.Style.{Style}
 use Rattle.tessellator.specs.declared.stroke.Style.the-variants.{Hard, Thin, Thick}
-use Rattle.tessellator.proofs.Growth.{length-each, vertices-step, vertex-room-left}
+use Rattle.tessellator.proofs.Growth.{length-each, vertices-added, vertices-step, vertex-room-left}
 use Rattle.tessellator.proofs.Joining.{length-rows}
 
 pub length-thick : (feathering width : Float) (rule : Pos2 → Color32) (points : List PathPoint) → 2 ≤ length points → length (thickLine feathering width rule points) ≡ 4 * length points
@@ -88,6 +89,14 @@ module _ (feathering width : Float) (rule : Pos2 → Color32) (points : List Pat
   space-for Hard fits = spaced Hard (fits .vertices) (fits .indices)
   space-for Thin fits = spaced Thin (fits .vertices) (fits .indices)
   space-for Thick fits = spaced Thick (fits .vertices) (fits .indices)
+
+-- rows of k vertices a point, drawn into a mesh that has space for them
+module _ (rule : Pos2 → Color32) (rows : List Row) (k : ℕ) (points : List PathPoint) (m m₁ : MeshState) (few : length rows ≡ k) where
+  pub rows-fit : k * length points ≤ vertexRoom m → length points * length rows ≤ vertexRoom m
+  rows-fit room = omega (arith, ap (λ r. length points * r) few, mul-comm (length points) k)
+
+  pub rows-counted : m₁ ≡ withVertices m (rowVertices rule rows points) → length (m₁ .vertices) ≡ length (m .vertices) + k * length points
+  rows-counted e = omega (arith, vertices-added m m₁ _ e, length-rows rule rows points, ap (λ r. length points * r) few, mul-comm (length points) k)
 
 -- the parts of a thick line's points as the code cuts them
 pub end-part : (points : List PathPoint) → 1 ≤ length points → take (length points - (length points - 1)) (drop (length points - 1) points) ≡ drop (length points - 1) points

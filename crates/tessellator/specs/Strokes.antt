@@ -15,6 +15,7 @@ use Rattle.emath.specs.declared.rect.Rect.{Rect}
 use Rattle.path.specs.Held.{Held}
 use Rattle.path.specs.Points.{moved}
 use Rattle.path.specs.declared.point.PathPoint.{PathPoint}
+use Rattle.path.specs.declared.point.Side.{Side}
 use Rattle.path.specs.declared.point.Side.the-variants.{Outward, Along, Inward, OutwardPast, InwardPast}
 use Rattle.tessellator.specs.Boxes.{strokeBox}
 use Rattle.tessellator.specs.Colors.{transparent, isTransparent}
@@ -43,20 +44,22 @@ innerRadius feathering width = half (sub binary32 width feathering)
 abbrev pub outerRadius : Float → Float → Float
 outerRadius feathering width = plane.midpoint width feathering
 
+-- two core rows between feathered sides
+abbrev pub coreBetween : Side → Float → Side → Color32 → List Row
+coreBetween first inner last fill =
+    record { side = first; paint = Flat transparent }
+    ∷ record { side = Outward inner; paint = Core }
+    ∷ record { side = Inward inner; paint = Core }
+    ∷ record { side = last; paint = Flat fill } ∷ []
+
 abbrev pub thickRows : Float → Float → Color32 → List Row
 thickRows feathering width fill =
-    record { side = Outward (outerRadius feathering width); paint = Flat transparent }
-    ∷ record { side = Outward (innerRadius feathering width); paint = Core }
-    ∷ record { side = Inward (innerRadius feathering width); paint = Core }
-    ∷ record { side = Inward (outerRadius feathering width); paint = Flat fill } ∷ []
+    coreBetween (Outward (outerRadius feathering width)) (innerRadius feathering width) (Inward (outerRadius feathering width)) fill
 
 -- the outer rows at an end of a thick line lie further out
 abbrev pub endRows : Float → Float → Float → List Row
 endRows feathering width past =
-    record { side = OutwardPast (outerRadius feathering width) past; paint = Flat transparent }
-    ∷ record { side = Outward (innerRadius feathering width); paint = Core }
-    ∷ record { side = Inward (innerRadius feathering width); paint = Core }
-    ∷ record { side = InwardPast (outerRadius feathering width) past; paint = Flat transparent } ∷ []
+    coreBetween (OutwardPast (outerRadius feathering width) past) (innerRadius feathering width) (InwardPast (outerRadius feathering width) past) transparent
 
 abbrev pub thinRows : Float → Float → Color32 → List Row
 thinRows feathering width fill =

@@ -66,53 +66,30 @@ pub(crate) fn thin_rows(feathering: f32, width: f32, fill: Color32) -> [Row; 3]
     ]
 }
 
+/// Two core rows between feathered sides.
+fn core_between(first: Side, inner: f32, last: Side, fill: Color32) -> [Row; 4]
+    ensures { λ r. ⌜ r ≡ strokes.coreBetween first inner last fill ⌝ }
+{
+    [
+        Row { side: first, paint: Paint::Flat(Color32::TRANSPARENT) },
+        Row { side: Side::Outward(inner), paint: Paint::Core },
+        Row { side: Side::Inward(inner), paint: Paint::Core },
+        Row { side: last, paint: Paint::Flat(fill) },
+    ]
+}
+
 pub(crate) fn thick_rows(feathering: f32, width: f32, fill: Color32) -> [Row; 4]
     ensures { λ r. ⌜ r ≡ strokes.thickRows feathering width fill ⌝ }
 {
-    let inner = inner_radius(feathering, width);
     let outer = fast_midpoint(width, feathering);
-    [
-        Row {
-            side: Side::Outward(outer),
-            paint: Paint::Flat(Color32::TRANSPARENT),
-        },
-        Row {
-            side: Side::Outward(inner),
-            paint: Paint::Core,
-        },
-        Row {
-            side: Side::Inward(inner),
-            paint: Paint::Core,
-        },
-        Row {
-            side: Side::Inward(outer),
-            paint: Paint::Flat(fill),
-        },
-    ]
+    core_between(Side::Outward(outer), inner_radius(feathering, width), Side::Inward(outer), fill)
 }
 
 /// The rows at an end of a thick line, whose outer ones lie `past` further out.
 pub(crate) fn end_rows(feathering: f32, width: f32, past: f32) -> [Row; 4]
     ensures { λ r. ⌜ r ≡ strokes.endRows feathering width past ⌝ }
 {
-    let inner = inner_radius(feathering, width);
     let outer = fast_midpoint(width, feathering);
-    [
-        Row {
-            side: Side::OutwardPast(outer, past),
-            paint: Paint::Flat(Color32::TRANSPARENT),
-        },
-        Row {
-            side: Side::Outward(inner),
-            paint: Paint::Core,
-        },
-        Row {
-            side: Side::Inward(inner),
-            paint: Paint::Core,
-        },
-        Row {
-            side: Side::InwardPast(outer, past),
-            paint: Paint::Flat(Color32::TRANSPARENT),
-        },
-    ]
+    let inner = inner_radius(feathering, width);
+    core_between(Side::OutwardPast(outer, past), inner, Side::InwardPast(outer, past), Color32::TRANSPARENT)
 }
