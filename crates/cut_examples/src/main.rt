@@ -19,10 +19,34 @@ use tessellator::vertex::TextureId;
 use tessellator::vertex::Vertex;
 
 const ORIGIN: Pos2 = Pos2 { x: 0.0, y: 0.0 };
-const NO_POINT: PathPoint = PathPoint { pos: ORIGIN, normal: Vec2::ZERO };
-const NO_VERTEX: Vertex = Vertex { pos: ORIGIN, uv: ORIGIN, color: Color32::TRANSPARENT };
-const NO_PART: Part = Part { first_vertex: 0, vertex_count: 0, first_index: 0, index_count: 0, texture_id: TextureId::DEFAULT };
-const WHITE: Solid = Solid { color: Color32 { r: 255, g: 255, b: 255, a: 255 } };
+
+const NO_POINT: PathPoint = PathPoint {
+    pos: ORIGIN,
+    normal: Vec2::ZERO,
+};
+
+const NO_VERTEX: Vertex = Vertex {
+    pos: ORIGIN,
+    uv: ORIGIN,
+    color: Color32::TRANSPARENT,
+};
+
+const NO_PART: Part = Part {
+    first_vertex: 0,
+    vertex_count: 0,
+    first_index: 0,
+    index_count: 0,
+    texture_id: TextureId::DEFAULT,
+};
+
+const WHITE: Solid = Solid {
+    color: Color32 {
+        r: 255,
+        g: 255,
+        b: 255,
+        a: 255,
+    },
+};
 
 /// Prints the parts, and the sum of all 16-bit indices.
 fn print_parts(rt: &LibcRuntime, mesh: &Finished) -> Result<(), AnyError> {
@@ -32,7 +56,12 @@ fn print_parts(rt: &LibcRuntime, mesh: &Finished) -> Result<(), AnyError> {
         Ok(count) => {
             println!(rt, "cut: parts {count}")?;
             for part in parts.iter().take(count) {
-                let (v, n, i, k) = (part.first_vertex, part.vertex_count, part.first_index, part.index_count);
+                let (v, n, i, k) = (
+                    part.first_vertex,
+                    part.vertex_count,
+                    part.first_index,
+                    part.index_count,
+                );
                 println!(rt, "  part {v} {n} {i} {k}")?;
             }
         }
@@ -54,7 +83,10 @@ fn print_line(rt: &LibcRuntime, length: u16) -> Result<(), AnyError> {
     let heap = rt.alloc();
     let mut places = Vec::new(heap);
     for i in 0..length {
-        places.push(Pos2 { x: f32::from(i), y: 0.0 })?;
+        places.push(Pos2 {
+            x: f32::from(i),
+            y: 0.0,
+        })?;
     }
     let mut points = vec![in heap; NO_POINT; 20_000]?;
     let mut vertices = vec![in heap; NO_VERTEX; 70_000]?;
@@ -64,7 +96,11 @@ fn print_line(rt: &LibcRuntime, length: u16) -> Result<(), AnyError> {
     if path.add_open_points(&places).is_err() {
         println!(rt, "line: refused")?;
     }
-    let stroke = PathStroke { width: 3.0, color: WHITE, kind: StrokeKind::Middle };
+    let stroke = PathStroke {
+        width: 3.0,
+        color: WHITE,
+        kind: StrokeKind::Middle,
+    };
     if stroke_open(&mut path, 1.0, &stroke, &mut mesh).is_err() {
         println!(rt, "stroke: refused")?;
     }

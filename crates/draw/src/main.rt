@@ -21,9 +21,25 @@ use tessellator::vertex::Vertex;
 const READ_BYTES: u64 = 49_153;
 
 const ORIGIN: Pos2 = Pos2 { x: 0.0, y: 0.0 };
-const NO_POINT: PathPoint = PathPoint { pos: ORIGIN, normal: Vec2::ZERO };
-const NO_VERTEX: Vertex = Vertex { pos: ORIGIN, uv: ORIGIN, color: Color32::TRANSPARENT };
-const NO_PART: Part = Part { first_vertex: 0, vertex_count: 0, first_index: 0, index_count: 0, texture_id: TextureId::DEFAULT };
+
+const NO_POINT: PathPoint = PathPoint {
+    pos: ORIGIN,
+    normal: Vec2::ZERO,
+};
+
+const NO_VERTEX: Vertex = Vertex {
+    pos: ORIGIN,
+    uv: ORIGIN,
+    color: Color32::TRANSPARENT,
+};
+
+const NO_PART: Part = Part {
+    first_vertex: 0,
+    vertex_count: 0,
+    first_index: 0,
+    index_count: 0,
+    texture_id: TextureId::DEFAULT,
+};
 
 /// Prints a line for each figure, or for the refusal that ends the file.
 fn print_figures(rt: &LibcRuntime, bytes: &[u8], runner: &mut Runner) -> Result<(), AnyError> {

@@ -1,7 +1,9 @@
 //! The limits on places and distances. A not-a-number lies within none.
+use crate::located::Located;
 use crate::plane::Pos2;
 use crate::plane::Vec2;
 ghost use mathlib.Core.Path.{_≡_};
+ghost use mathlib.Core.List.{map};
 ghost use Rattle.emath.specs.Limits as limits;
 
 fn is_coordinate(x: f32) -> bool
@@ -15,6 +17,18 @@ pub fn is_place(p: Pos2) -> bool
     ensures { λ r. ⌜ r ≡ limits.isPlace p ⌝ }
 {
     is_coordinate(p.x) && is_coordinate(p.y)
+}
+
+/// All of these lie at places within their limits.
+pub fn all_places<P: Located>(items: &[P]) -> bool
+    ensures { λ r. ⌜ r ≡ limits.allPlaces (map place (now (items .entry))) ⌝ }
+{
+    for item in items {
+        if !is_place(item.pos()) {
+            return false;
+        }
+    }
+    true
 }
 
 /// Widths, feathering and radii lie from 0 to 65,536.

@@ -20,12 +20,32 @@ use tessellator::vertex::TextureId;
 use tessellator::vertex::Vertex;
 
 const ORIGIN: Pos2 = Pos2 { x: 0.0, y: 0.0 };
-const NO_POINT: PathPoint = PathPoint { pos: ORIGIN, normal: Vec2::ZERO };
-const NO_VERTEX: Vertex = Vertex { pos: ORIGIN, uv: ORIGIN, color: Color32::TRANSPARENT };
+
+const NO_POINT: PathPoint = PathPoint {
+    pos: ORIGIN,
+    normal: Vec2::ZERO,
+};
+
+const NO_VERTEX: Vertex = Vertex {
+    pos: ORIGIN,
+    uv: ORIGIN,
+    color: Color32::TRANSPARENT,
+};
 
 const STRAIGHT: [Pos2; 2] = [Pos2 { x: 0.0, y: 0.0 }, Pos2 { x: 3.0, y: 4.0 }];
-const CORNER: [Pos2; 3] = [Pos2 { x: 0.0, y: 0.0 }, Pos2 { x: 10.0, y: 0.0 }, Pos2 { x: 10.0, y: 10.0 }];
-const SHARP: [Pos2; 3] = [Pos2 { x: 0.0, y: 0.0 }, Pos2 { x: 10.0, y: 0.0 }, Pos2 { x: 0.0, y: 1.0 }];
+
+const CORNER: [Pos2; 3] = [
+    Pos2 { x: 0.0, y: 0.0 },
+    Pos2 { x: 10.0, y: 0.0 },
+    Pos2 { x: 10.0, y: 10.0 },
+];
+
+const SHARP: [Pos2; 3] = [
+    Pos2 { x: 0.0, y: 0.0 },
+    Pos2 { x: 10.0, y: 0.0 },
+    Pos2 { x: 0.0, y: 1.0 },
+];
+
 const DOUBLED: [Pos2; 5] = [
     Pos2 { x: 0.0, y: 0.0 },
     Pos2 { x: 0.0, y: 0.0 },
@@ -34,14 +54,44 @@ const DOUBLED: [Pos2; 5] = [
     Pos2 { x: 10.0, y: 5.0 },
 ];
 
-const CREAM: Color32 = Color32 { r: 255, g: 240, b: 200, a: 255 };
-const CLEAR: Solid = Solid { color: Color32::TRANSPARENT };
+const CREAM: Color32 = Color32 {
+    r: 255,
+    g: 240,
+    b: 200,
+    a: 255,
+};
+
+const CLEAR: Solid = Solid {
+    color: Color32::TRANSPARENT,
+};
+
 const PLAIN: Solid = Solid { color: CREAM };
+
 const SCALE: Zones = Zones {
-    first: Color32 { r: 255, g: 0, b: 0, a: 255 },
-    second: Color32 { r: 0, g: 255, b: 0, a: 255 },
-    third: Color32 { r: 0, g: 0, b: 255, a: 255 },
-    last: Color32 { r: 1, g: 2, b: 3, a: 4 },
+    first: Color32 {
+        r: 255,
+        g: 0,
+        b: 0,
+        a: 255,
+    },
+    second: Color32 {
+        r: 0,
+        g: 255,
+        b: 0,
+        a: 255,
+    },
+    third: Color32 {
+        r: 0,
+        g: 0,
+        b: 255,
+        a: 255,
+    },
+    last: Color32 {
+        r: 1,
+        g: 2,
+        b: 3,
+        a: 4,
+    },
 };
 
 fn print_path(rt: &LibcRuntime, path: &Path) -> Result<(), AnyError> {
@@ -63,7 +113,10 @@ fn print_vertices(rt: &LibcRuntime, vertices: &[Vertex]) -> Result<(), AnyError>
         let v = f32_to_bits_with_nan(vertex.uv.y);
         let c = vertex.color;
         let color = u32::from_be_bytes([c.r, c.g, c.b, c.a]);
-        println!(rt, "  vertex {x:08x} {y:08x} texture {u:08x} {v:08x} colour {color:08x}")?;
+        println!(
+            rt,
+            "  vertex {x:08x} {y:08x} texture {u:08x} {v:08x} colour {color:08x}"
+        )?;
     }
     Ok(())
 }
@@ -78,7 +131,12 @@ fn print_triangles(rt: &LibcRuntime, indices: &[u32]) -> Result<(), AnyError> {
 }
 
 /// Draws one line into an empty mesh, and prints the path and the mesh afterwards.
-fn print_stroke<C: ColorRule>(rt: &LibcRuntime, places: &[Pos2], feathering: f32, stroke: &PathStroke<C>) -> Result<(), AnyError> {
+fn print_stroke<C: ColorRule>(
+    rt: &LibcRuntime,
+    places: &[Pos2],
+    feathering: f32,
+    stroke: &PathStroke<C>,
+) -> Result<(), AnyError> {
     let mut points = [NO_POINT; 16];
     let mut vertices = [NO_VERTEX; 64];
     let mut indices = [0u32; 256];
@@ -104,12 +162,42 @@ fn print_stroke<C: ColorRule>(rt: &LibcRuntime, places: &[Pos2], feathering: f32
     print_triangles(rt, mesh.indices())
 }
 
-fn print_solid(rt: &LibcRuntime, places: &[Pos2], feathering: f32, width: f32, kind: StrokeKind) -> Result<(), AnyError> {
-    print_stroke(rt, places, feathering, &PathStroke { width, color: PLAIN, kind })
+fn print_solid(
+    rt: &LibcRuntime,
+    places: &[Pos2],
+    feathering: f32,
+    width: f32,
+    kind: StrokeKind,
+) -> Result<(), AnyError> {
+    print_stroke(
+        rt,
+        places,
+        feathering,
+        &PathStroke {
+            width,
+            color: PLAIN,
+            kind,
+        },
+    )
 }
 
-fn print_zones(rt: &LibcRuntime, places: &[Pos2], feathering: f32, width: f32, kind: StrokeKind) -> Result<(), AnyError> {
-    print_stroke(rt, places, feathering, &PathStroke { width, color: SCALE, kind })
+fn print_zones(
+    rt: &LibcRuntime,
+    places: &[Pos2],
+    feathering: f32,
+    width: f32,
+    kind: StrokeKind,
+) -> Result<(), AnyError> {
+    print_stroke(
+        rt,
+        places,
+        feathering,
+        &PathStroke {
+            width,
+            color: SCALE,
+            kind,
+        },
+    )
 }
 
 fn main(rt: LibcRuntime) -> Result<(), AnyError> {
@@ -123,5 +211,14 @@ fn main(rt: LibcRuntime) -> Result<(), AnyError> {
     print_zones(&rt, &DOUBLED, 1.0, 4.0, StrokeKind::Middle)?;
     print_zones(&rt, &CORNER, 2.0, 1.5, StrokeKind::Outside)?;
     print_zones(&rt, &SHARP, 0.0, 2.5, StrokeKind::Inside)?;
-    print_stroke(&rt, &CORNER, 1.0, &PathStroke { width: 2.0, color: CLEAR, kind: StrokeKind::Inside })
+    print_stroke(
+        &rt,
+        &CORNER,
+        1.0,
+        &PathStroke {
+            width: 2.0,
+            color: CLEAR,
+            kind: StrokeKind::Inside,
+        },
+    )
 }

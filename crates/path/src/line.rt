@@ -1,11 +1,9 @@
 //! The corners of lines.
-use emath::limits::is_place;
 use emath::plane::*;
 ghost use mathlib.Core.Path.{_≡_};
 ghost use mathlib.Core.List.{List, _∷_};
 ghost use Prim.Native.Nat.{_≤_};
 ghost use lib.ListN.{length};
-ghost use Rattle.emath.specs.Limits.{allPlaces};
 ghost use Rattle.path.specs.Lines as lines;
 
 /// The normals of a corner: one of a mitred corner, two of a corner that is cut off.
@@ -91,17 +89,6 @@ fn corner_count(corner: Corner) -> usize
         Corner::Mitre(_) => 1,
         Corner::Cut(_, _) => 2,
     }
-}
-
-pub(crate) fn all_places(places: &[Pos2]) -> bool
-    ensures { λ r. ⌜ r ≡ allPlaces (now (places .entry)) ⌝ }
-{
-    for p in places {
-        if !is_place(*p) {
-            return false;
-        }
-    }
-    true
 }
 
 /// How many points the open line from `first` over `second` and the rest has.

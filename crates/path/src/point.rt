@@ -1,4 +1,5 @@
 //! The points of a path, and the places beside them.
+use emath::located::Located;
 use emath::plane::*;
 ghost use mathlib.Core.Path.{_≡_};
 ghost use Rattle.path.specs.Points as points;
@@ -19,6 +20,14 @@ pub enum Side {
     Inward(f32),
     OutwardPast(f32, f32),
     InwardPast(f32, f32),
+}
+
+pub impl Located for PathPoint as PointLocated {
+    ghost place = { λ p. p .pos };
+
+    fn pos(&self) -> Pos2 {
+        self.pos
+    }
 }
 
 impl PathPoint {

@@ -25,15 +25,16 @@ use Rattle.tessellator.proofs.Growth.{length-flat, length-raised}
 added : (figure : Figure) (p : Held PathPoint) (m : MeshState) → length (figure .points) ≡ length (p .used) → Added (sizeOf figure) p m (drawn figure p m .path) (drawn figure p m .mesh)
 unfolding withVertices withTriangles
 added figure p m same = record {
-    vertices = take-at (m .vertices) (figure .vertices) _ refl;
-    vertexCount = length-append (m .vertices) (figure .vertices);
-    unusedVertices = refl;
-    indices = take-at (m .indices) _ _ refl;
-    indexCount = length-append (m .indices) _ ∙ ap (λ n. length (m .indices) + n) (length-flat _ ∙ ap (λ n. 3 * n) (length-raised (length (m .vertices)) (trianglesOf figure)));
-    unusedIndices = refl;
-    texture = refl;
-    pointCount = same;
-    unusedPoints = refl }
+  vertices = take-at (m .vertices) (figure .vertices) _ refl;
+  vertexCount = length-append (m .vertices) (figure .vertices);
+  unusedVertices = refl;
+  indices = take-at (m .indices) _ _ refl;
+  indexCount = length-append (m .indices) _ ∙ ap (λ n. length (m .indices) + n) (length-flat _ ∙ ap (λ n. 3 * n) (length-raised (length (m .vertices)) (trianglesOf figure)));
+  unusedIndices = refl;
+  texture = refl;
+  pointCount = same;
+  unusedPoints = refl;
+}
 
 settled-grows : (why : Option FigureFault) (figure : Figure) (p : Held PathPoint) (m : MeshState) → length (figure .points) ≡ length (p .used) →
     Grows (settled why figure p m .answer) p m (settled why figure p m .path) (settled why figure p m .mesh)
@@ -55,10 +56,12 @@ no-refusal size m default v i =
 
 pub outcome-sized : (allowed : Bool) (figure : Figure) (p : Held PathPoint) (m : MeshState) → Sized (outcome allowed figure p m .answer) (sizing allowed figure) m
 outcome-sized true figure p m = record {
-    same = settled-same (refusalOf (sizeOf figure) m) figure p m;
-    enough = λ size e default v i.
+  same = settled-same (refusalOf (sizeOf figure) m) figure p m;
+  enough = λ size e default v i.
       let is : sizeOf figure ≡ size = cc in
-      ap (λ why. settled why figure p m .answer) (ap (λ s. refusalOf s m) is ∙ no-refusal size m default v i) ∙ e }
+      ap (λ why. settled why figure p m .answer) (ap (λ s. refusalOf s m) is ∙ no-refusal size m default v i) ∙ e;
+}
 outcome-sized false figure p m = record {
-    same = λ size e. absurd (let z : _≡_ {A = ℕ} 0 1 = cc in omega arith);
-    enough = λ size e default v i. e }
+  same = λ size e. absurd (let z : _≡_ {A = ℕ} 0 1 = cc in omega arith);
+  enough = λ size e default v i. e;
+}

@@ -124,4 +124,5 @@ module _ (feathering width : Float) (kind : StrokeKind) (colour : Rect → Pos2 
       record {
         outcome = e;
         grows = subst (λ (o : Outcome). Grows (o .answer) p m (o .path) (o .mesh)) (sym e) (outcome-grows allowed figure p m (length-open feathering width kind colour plain (p .used)));
-        sized = subst (λ (o : Outcome). Sized (o .answer) (strokeSizing (pen feathering width kind colour plain) p) m) (sym e) (outcome-sized allowed figure p m) }
+        sized = subst (λ (o : Outcome). Sized (o .answer) (strokeSizing (pen feathering width kind colour plain) p) m) (sym e) (outcome-sized allowed figure p m);
+      }

@@ -8,7 +8,7 @@ use lib.ListN.{length, take, drop}
 use Rattle.std.specs.declared.option.Option.{Option}
 use Rattle.std.specs.declared.option.Option.the-variants.{Some, None}
 use Rattle.emath.specs.Answers.{Answer}
-use Rattle.emath.specs.Limits.{isPlace, isDistance}
+use Rattle.emath.specs.Limits.{allPlaces, isDistance}
 use Rattle.emath.specs.Plane as plane
 use Rattle.emath.specs.declared.plane.Pos2.{Pos2}
 use Rattle.emath.specs.declared.rect.Rect.{Rect}
@@ -232,8 +232,7 @@ openPen colour plain feathering stroke = record {
 }
 
 abbrev pub arePlaces : List PathPoint → Bool
-arePlaces [] = true
-arePlaces (point ∷ rest) = isPlace (point .pos) && arePlaces rest
+arePlaces points = allPlaces (map (λ p. p .pos) points)
 
 abbrev pub strokeAllowed : Pen → List PathPoint → Bool
 strokeAllowed pen points = isDistance (pen .width) && (isDistance (pen .feathering) && arePlaces points)

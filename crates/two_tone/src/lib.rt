@@ -53,7 +53,12 @@ pub impl ColorRule for TwoTone as TwoToneRule {
 }
 
 /// The library's stroke with this rule, and what its contract says there.
-pub fn stroke_in_two_tones(path: &mut Path, feathering: f32, stroke: &PathStroke<TwoTone>, out: &mut Mesh) -> Result<Appended, FigureFault>
+pub fn stroke_in_two_tones(
+    path: &mut Path,
+    feathering: f32,
+    stroke: &PathStroke<TwoTone>,
+    out: &mut Mesh,
+) -> Result<Appended, FigureFault>
     ensures { λ r. ⌜ after r (now (path .exit)) (now (out .exit)) ≡ strokeOutcome (openPen (λ s _ p. toneAt s p) (λ _. None) feathering (now (stroke .entry))) (pathState (now (path .entry))) (meshState (now (out .entry))) ⌝ }
 {
     stroke_open(path, feathering, stroke, out)

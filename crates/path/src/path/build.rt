@@ -4,8 +4,10 @@ use crate::fault::PathFault;
 use crate::line;
 use crate::line::Corner;
 use crate::point::PathPoint;
+use emath::limits::all_places;
 use emath::limits::is_place;
 use emath::limits::is_vector;
+use emath::located::PosLocated;
 use emath::plane::Pos2;
 use emath::plane::Vec2;
 ghost use mathlib.Core.Path.{_≡_};
@@ -74,7 +76,7 @@ impl<'a> Path<'a> {
     pub fn add_open_points(&mut self, places: &[Pos2]) -> Result<(), PathFault>
         ensures { λ r. ⌜ left r (now (self .exit)) ≡ lineAdded (now (places .entry)) (pathState (now (self .entry))) ⌝ }
     {
-        if !line::all_places(places) {
+        if !all_places(places) {
             return Err(PathFault::OutOfLimits);
         }
         if places.len() < 2 {

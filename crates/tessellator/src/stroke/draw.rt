@@ -2,7 +2,7 @@
 ghost use mathlib.Core.Path.{_≡_};
 ghost use Prim.Native.Nat.{_*_, _≤_};
 ghost use lib.ListN.{length};
-ghost use Rattle.tessellator.specs.Boxes.{boxOf, strokeBox};
+ghost use Rattle.tessellator.specs.Boxes.{strokeBox};
 ghost use Rattle.tessellator.specs.Outcome.{meshAfter};
 ghost use Rattle.tessellator.specs.State.{meshState, withVertices, vertexRoom};
 ghost use Rattle.tessellator.specs.Strokes as strokes;
@@ -15,24 +15,14 @@ use crate::mesh::Mesh;
 use crate::rule::ColorRule;
 use emath::rect::Rect;
 use path::point::PathPoint;
-
-/// The least box with all the points' places in it.
-fn bounds_of(points: &[PathPoint]) -> Rect
-    ensures { λ r. ⌜ r ≡ boxOf (now (points .entry)) ⌝ }
-{
-    let mut bounds = Rect::nothing();
-    for point in points {
-        bounds = bounds.widened(point.pos);
-    }
-    bounds
-}
+use path::point::PointLocated;
 
 /// A box at which the rule answers as at the stroke's, which is worked out only for a rule that reads it.
 fn box_for<C: ColorRule>(points: &[PathPoint], feathering: f32, width: f32, rule: &C) -> Rect
     ensures { λ r. ⌜ colour (now (rule .entry)) r ≡ colour (now (rule .entry)) (strokeBox feathering width (now (points .entry))) ⌝ }
 {
     if C::consults_box() {
-        bounds_of(points).expand(width / 2.0 + feathering)
+        Rect::from_points(points).expand(width / 2.0 + feathering)
     } else {
         Rect::nothing()
     }

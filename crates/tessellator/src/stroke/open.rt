@@ -16,10 +16,11 @@ use crate::fault::Appended;
 use crate::fault::FigureFault;
 use crate::mesh::Mesh;
 use crate::rule::ColorRule;
+use emath::limits::all_places;
 use emath::limits::is_distance;
-use emath::limits::is_place;
 use path::path::Path;
 use path::point::PathPoint;
+use path::point::PointLocated;
 use path::point::Side;
 
 impl<C: ColorRule> PathStroke<C> {
@@ -32,17 +33,6 @@ impl<C: ColorRule> PathStroke<C> {
             None => false,
         }
     }
-}
-
-fn are_places(points: &[PathPoint]) -> bool
-    ensures { λ r. ⌜ r ≡ strokes.arePlaces (now (points .entry)) ⌝ }
-{
-    for point in points {
-        if !is_place(point.pos) {
-            return false;
-        }
-    }
-    true
 }
 
 /// Moves the points to the middle of the stroke.
@@ -128,7 +118,7 @@ pub fn size_of_stroke_open<C: ColorRule>(
     ensures { λ r. ⌜ told r ≡ strokes.strokeSizing (strokes.openPen colour plain feathering (now (stroke .entry))) (pathState (now (path .entry))) ⌝ }
 {
     let points = path.as_slice();
-    if !is_distance(stroke.width) || !is_distance(feathering) || !are_places(points) {
+    if !is_distance(stroke.width) || !is_distance(feathering) || !all_places(points) {
         return Err(FigureFault::OutOfLimits);
     }
     Ok(size_of(points, feathering, stroke))

@@ -71,10 +71,22 @@ fn core_between(first: Side, inner: f32, last: Side, fill: Color32) -> [Row; 4]
     ensures { λ r. ⌜ r ≡ strokes.coreBetween first inner last fill ⌝ }
 {
     [
-        Row { side: first, paint: Paint::Flat(Color32::TRANSPARENT) },
-        Row { side: Side::Outward(inner), paint: Paint::Core },
-        Row { side: Side::Inward(inner), paint: Paint::Core },
-        Row { side: last, paint: Paint::Flat(fill) },
+        Row {
+            side: first,
+            paint: Paint::Flat(Color32::TRANSPARENT),
+        },
+        Row {
+            side: Side::Outward(inner),
+            paint: Paint::Core,
+        },
+        Row {
+            side: Side::Inward(inner),
+            paint: Paint::Core,
+        },
+        Row {
+            side: last,
+            paint: Paint::Flat(fill),
+        },
     ]
 }
 
@@ -82,7 +94,12 @@ pub(crate) fn thick_rows(feathering: f32, width: f32, fill: Color32) -> [Row; 4]
     ensures { λ r. ⌜ r ≡ strokes.thickRows feathering width fill ⌝ }
 {
     let outer = fast_midpoint(width, feathering);
-    core_between(Side::Outward(outer), inner_radius(feathering, width), Side::Inward(outer), fill)
+    core_between(
+        Side::Outward(outer),
+        inner_radius(feathering, width),
+        Side::Inward(outer),
+        fill,
+    )
 }
 
 /// The rows at an end of a thick line, whose outer ones lie `past` further out.
@@ -91,5 +108,10 @@ pub(crate) fn end_rows(feathering: f32, width: f32, past: f32) -> [Row; 4]
 {
     let outer = fast_midpoint(width, feathering);
     let inner = inner_radius(feathering, width);
-    core_between(Side::OutwardPast(outer, past), inner, Side::InwardPast(outer, past), Color32::TRANSPARENT)
+    core_between(
+        Side::OutwardPast(outer, past),
+        inner,
+        Side::InwardPast(outer, past),
+        Color32::TRANSPARENT,
+    )
 }

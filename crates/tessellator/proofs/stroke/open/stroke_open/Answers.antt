@@ -18,5 +18,5 @@ pub returns : need.returns
 returns g c =
     let s = c .args .stroke .now in
     let k = kept (c .args .feathering) (s .width) (s .kind) (g .C·ColorRule .colour (s .color)) (g .C·ColorRule .plain (s .color)) (told (Ok (c .in-Continue-size .size)))
-        (pathState (c .args .path .now)) (pathState (c .draw .last .path)) (meshState (c .args .out .now)) (meshState (c .draw .last .out)) (search needs) in
+    (pathState (c .args .path .now)) (pathState (c .draw .last .path)) (meshState (c .args .out .now)) (meshState (c .draw .last .out)) (search needs) in
     record { outcome = k .outcome; grows = k .grows; sized = k .sized }
