@@ -13,6 +13,7 @@ use path::point::PathPoint;
 use std::error::AnyError;
 use std::io::ReadMethods;
 use tessellator::color::Color32;
+use tessellator::finished::Finished;
 use tessellator::mesh::Mesh;
 use tessellator::vertex::TextureId;
 use tessellator::vertex::Vertex;
@@ -58,10 +59,10 @@ fn print_figures(rt: &LibcRuntime, bytes: &[u8], runner: &mut Runner) -> Result<
 }
 
 /// Cuts the mesh, and prints the count of its parts.
-fn print_parts(rt: &LibcRuntime, mesh: Mesh) -> Result<(), AnyError> {
+fn print_parts(rt: &LibcRuntime, mesh: &Finished) -> Result<(), AnyError> {
     let mut indices = [0u16; 12_288];
     let mut parts = [NO_PART; 1];
-    match split_to_u16(&mesh.finish(), &mut indices, &mut parts) {
+    match split_to_u16(mesh, &mut indices, &mut parts) {
         Ok(count) => {
             let line = Parts(count);
             println!(rt, "{line}")?;
@@ -82,5 +83,5 @@ fn main(rt: LibcRuntime) -> Result<(), AnyError> {
     let mut mesh = Mesh::with_texture(TextureId::DEFAULT, &mut vertices, &mut indices);
     let mut runner = Runner::new(&bytes, &mut path, &mut places, &mut mesh);
     print_figures(&rt, &bytes, &mut runner)?;
-    print_parts(&rt, mesh)
+    print_parts(&rt, &mesh.finish())
 }
