@@ -1,5 +1,4 @@
 -- Runs of triangles that 16-bit indices can name, and the least number of them.
--- Assumes nothing.
 use mathlib.Core.Path.{_≡_}
 use mathlib.Core.Bool.{cond}
 use mathlib.Core.List.{List, [], _∷_, _++_}

@@ -1,5 +1,5 @@
 //! Paths: points with normals, in memory that the caller lends.
 pub mod fault;
-pub mod line;
+mod line;
 pub mod path;
 pub mod point;

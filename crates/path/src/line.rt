@@ -8,16 +8,16 @@ ghost use Rattle.path.specs.Lines as lines;
 
 /// The normals of a corner: one of a mitred corner, two of a corner that is cut off.
 #[derive(Clone, Copy)]
-pub enum Corner {
+pub(crate) enum Corner {
     Mitre(Vec2),
     Cut(Vec2, Vec2),
 }
 
 /// A corner of an open line, and the normal that the edge after it is taken to have.
 #[derive(Clone, Copy)]
-pub struct Turn {
-    pub corner: Corner,
-    pub normal: Vec2,
+pub(crate) struct Turn {
+    pub(crate) corner: Corner,
+    pub(crate) normal: Vec2,
 }
 
 fn is_zero(v: Vec2) -> bool

@@ -20,10 +20,10 @@ use Rattle.tessellator.specs.declared.fault.Appended.{Appended}
 use Rattle.tessellator.specs.declared.row.Row.{Row}
 use Rattle.tessellator.specs.declared.stroke.Style.{Style}
 use Rattle.tessellator.specs.declared.stroke.Style.the-variants.{Hard, Thin, Thick}
-use Rattle.tessellator.proofs.Growth.{length-each, vertices-added, vertices-step, vertex-room-left}
+use Rattle.tessellator.proofs.Growth.{length-each, index-room-kept, vertices-added, vertices-step, vertex-room-left}
 use Rattle.tessellator.proofs.Joining.{length-rows}
 
-pub length-thick : (feathering width : Float) (rule : Pos2 → Color32) (points : List PathPoint) → 2 ≤ length points → length (thickLine feathering width rule points) ≡ 4 * length points
+length-thick : (feathering width : Float) (rule : Pos2 → Color32) (points : List PathPoint) → 2 ≤ length points → length (thickLine feathering width rule points) ≡ 4 * length points
 length-thick feathering width rule points h =
     let n = length points in
     let first = rowVertices rule (endRows feathering width feathering) (take 1 points) in
@@ -148,3 +148,9 @@ module _ (feathering width : Float) (rule : Pos2 → Color32) (points : List Pat
       where
         twice : length points - 1 - 1 ≡ length points - 2
         twice = omega arith
+
+-- the vertices of a thick line, once drawn
+pub thick-counted : (feathering width : Float) (rule : Pos2 → Color32) (points : List PathPoint) (m m₁ : MeshState) → 2 ≤ length points →
+    m₁ ≡ withVertices m (thickLine feathering width rule points) → (length (m₁ .vertices) ≡ length (m .vertices) + 4 * length points) × (indexRoom m₁ ≡ indexRoom m)
+thick-counted feathering width rule points m m₁ h e =
+    (vertices-added m m₁ _ e ∙ ap (λ k. length (m .vertices) + k) (length-thick feathering width rule points h), index-room-kept m m₁ _ e)

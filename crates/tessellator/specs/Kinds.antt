@@ -1,11 +1,8 @@
--- The triangles of each kind of figure over its numbered vertices, in the order drawn, and the figure's rim.
+-- The triangles of each kind of figure over its numbered vertices, in the order drawn.
 -- A figure gives each of its points the same number of rows; the vertex of point i in row r of R rows has the number R * i + r.
--- Assumes nothing.
-use mathlib.Core.Path.{_≡_}
-use mathlib.Core.Logic.{_⊎_}
 use mathlib.Core.List.{List, [], _∷_, _++_}
-use Prim.Native.Nat.{ℕ, zero, suc, _+_, _*_, _-_, _<_}
-use Rattle.tessellator.specs.Triangles.{Triangle, tri, raised, Raised}
+use Prim.Native.Nat.{ℕ, zero, suc, _+_, _*_, _-_}
+use Rattle.tessellator.specs.Triangles.{Triangle, tri, raised}
 use Rattle.tessellator.specs.declared.stroke.Style.{Style}
 use Rattle.tessellator.specs.declared.stroke.Style.the-variants.{Hard, Thin, Thick}
 
@@ -79,68 +76,3 @@ triangles (loop Thick) n = ring 4 n
 triangles (filled Hard) n = (planks n ++ plank (n - 1) 0) ++ raised (2 * n) (polygon n)
 triangles (filled Thin) n = ring 3 n ++ fan 3 2 n
 triangles (filled Thick) n = ring 4 n ++ fan 4 3 n
-
--- how many vertices it has
-abbrev pub size : Kind → ℕ → ℕ
-size nothing n = 0
-size hard-fill n = n
-size feathered-fill n = 2 * n
-size (line s) n = rows s * n
-size (loop s) n = rows s * n
-size (filled Hard) n = 2 * n + n
-size (filled Thin) n = 3 * n
-size (filled Thick) n = 4 * n
-
--- Neighbours are consecutive points, and on a ring the first and the last too; the lesser is named first.
-abbrev pub Next : ℕ → ℕ → ℕ → Type 0
-Next n i j = (j ≡ i + 1) × (j < n)
-
-abbrev pub Around : ℕ → ℕ → ℕ → Type 0
-Around n i j = Next n i j ⊎ ((i ≡ 0) × (j + 1 ≡ n))
-
--- u and v join neighbours in row r of R rows
-abbrev pub InRow : (ℕ → ℕ → Type 0) → ℕ → ℕ → ℕ → ℕ → Type 0
-InRow Near R r u v = (i : ℕ) × (j : ℕ) × Near i j × (u ≡ R * i + r) × (v ≡ R * j + r)
-
--- u and v join the rows r and q of R rows at an end of a line of n points
-abbrev pub AtEnd : ℕ → ℕ → ℕ → ℕ → ℕ → ℕ → Type 0
-AtEnd n R r q u v = (i : ℕ) × ((i ≡ 0) ⊎ (i + 1 ≡ n)) × (u ≡ R * i + r) × (v ≡ R * i + q)
-
-abbrev pub Ends : Style → ℕ → ℕ → ℕ → Type 0
-Ends Hard n u v = AtEnd n 2 0 1 u v
-Ends Thin n u v = AtEnd n 3 0 1 u v ⊎ AtEnd n 3 1 2 u v
-Ends Thick n u v = AtEnd n 4 0 3 u v
-
-abbrev pub Sides : (ℕ → ℕ → Type 0) → Style → ℕ → ℕ → Type 0
-Sides Near s u v = InRow Near (rows s) 0 u v ⊎ InRow Near (rows s) (rows s - 1) u v
-
--- the rim of a figure of n points, by its vertices' numbers within it, the lesser first
-abbrev pub Rim : Kind → ℕ → ℕ → ℕ → Type 0
-Rim nothing n u v = ⊥
-Rim hard-fill n u v = InRow (Around n) 1 0 u v
-Rim feathered-fill n u v = InRow (Around n) 2 1 u v
-Rim (line s) n u v = Sides (Next n) s u v ⊎ Ends s n u v
-Rim (loop s) n u v = Sides (Around n) s u v
-Rim (filled Hard) n u v = Sides (Around n) Hard u v ⊎ Raised (2 * n) (InRow (Around n) 1 0) u v
-Rim (filled Thin) n u v = InRow (Around n) 3 0 u v
-Rim (filled Thick) n u v = InRow (Around n) 4 0 u v
-
--- the fewest points that it is drawn from; a hard stroke of two points has no fill, so it is a loop
-abbrev pub least : Kind → ℕ
-least nothing = 0
-least hard-fill = 3
-least feathered-fill = 3
-least (line s) = 2
-least (loop s) = 2
-least (filled Hard) = 3
-least (filled Thin) = 2
-least (filled Thick) = 2
-
--- the fewest points that the promise speaks of: a closed stroke of two points folds onto itself
-abbrev pub fewest : Kind → ℕ
-fewest nothing = 0
-fewest hard-fill = 3
-fewest feathered-fill = 3
-fewest (line s) = 2
-fewest (loop s) = 3
-fewest (filled s) = 3

@@ -3,7 +3,7 @@ pub mod color;
 pub mod fault;
 pub mod finished;
 pub mod mesh;
-pub mod row;
+mod row;
 pub mod rule;
 pub mod stroke;
 pub mod vertex;

@@ -7,11 +7,11 @@ use crate::vertex::TextureId;
 use crate::vertex::Vertex;
 
 pub mod finish;
-pub mod grow;
+mod grow;
 pub mod read;
-pub mod room;
-pub mod rows;
-pub mod triangles;
+mod room;
+mod rows;
+mod triangles;
 
 /// Vertices, and indices of which each three name the corners of a triangle.
 /// Only the first `vertex_count` and `index_count` places of the memory are in use.

@@ -1,7 +1,7 @@
 //! Strokes.
-pub mod draw;
+mod draw;
 pub mod open;
-pub mod rows;
+mod rows;
 
 /// Where a stroke lies beside its path.
 #[derive(Clone, Copy)]
@@ -21,7 +21,7 @@ pub struct PathStroke<C> {
 
 /// How a stroke is drawn: without feathering, as a faded ridge, or with feathered sides.
 #[derive(Clone, Copy)]
-pub enum Style {
+pub(crate) enum Style {
     Hard,
     Thin,
     Thick,

@@ -48,13 +48,6 @@ impl<'r, 'a> Runner<'r, 'a> {
         }
     }
 
-    /// The mesh as it stands.
-    pub fn mesh(&self) -> &Mesh<'a>
-        ensures { λ r. ⌜ meshState (now r) ≡ runState (now (self .entry)) .mesh ⌝ }
-    {
-        self.mesh
-    }
-
     /// Runs one record. A paint answers the size of its figure.
     fn step(&mut self, record: Record) -> Result<Option<Appended>, FileFault>
         requires { ⌜ Whole (item «record») ⌝ }
