@@ -12,7 +12,7 @@ transparent = record { r = 0; g = 0; b = 0; a = 0 }
 abbrev pub isTransparent : Color32 → Bool
 isTransparent c = eqb (c .r) 0 && (eqb (c .g) 0 && (eqb (c .b) 0 && eqb (c .a) 0))
 
--- a byte times the factor, plus 0.5, without its fraction and at most 255
+-- ⌊byte · factor + 0.5⌋, from 0 to 255
 abbrev pub fadedByte : Float → ℕ → ℕ
 fadedByte factor byte = toUnsigned 8 (add binary32 (mul binary32 (ofInt binary32 (pos byte)) factor) (ofBits binary32 0x3F00_0000))
 

@@ -3,7 +3,7 @@ use std::num::saturating_f32_to_u8;
 ghost use mathlib.Core.Path.{_≡_};
 ghost use Rattle.tessellator.specs.Colors as colors;
 
-/// Red, green, blue and alpha. Four zeros are transparent, and all else is visible.
+/// Red, green, blue and alpha. Only the colour whose bytes are all 0 is transparent.
 #[derive(Clone, Copy)]
 pub struct Color32 {
     pub r: u8,
@@ -12,7 +12,7 @@ pub struct Color32 {
     pub a: u8,
 }
 
-// A byte times the factor, plus 0.5, without its fraction and at most 255.
+// ⌊byte · factor + 0.5⌋, from 0 to 255.
 fn faded_byte(byte: u8, factor: f32) -> u8
     ensures { λ r. ⌜ r ≡ colors.fadedByte factor byte ⌝ }
 {

@@ -11,7 +11,7 @@ use crate::color::Color32;
 use emath::plane::Pos2;
 use emath::rect::Rect;
 
-/// One colour for each box and place.
+/// What colour a stroke has at a place, given the box of its figure.
 pub trait ColorRule {
     /// Whether the answer depends on the box.
     const READS_BOX: bool;
@@ -22,10 +22,10 @@ pub trait ColorRule {
 
     ghost plain: { Self → Option Color32 };
 
-    // a rule that does not read the box answers alike for every box
+    // unless it reads the box, the box makes no difference
     law boxless: { reads ≡ false → (s : Self) (b c : Rect) (p : Pos2) → colour s b p ≡ colour s c p };
 
-    // a plain colour is the answer everywhere
+    // where there is a plain colour, every place has it
     law everywhere: { (s : Self) (k : Color32) → plain s ≡ Some k → (b : Rect) (p : Pos2) → colour s b p ≡ k };
 
     /// `READS_BOX`, for contracts.

@@ -124,7 +124,7 @@ pub fn size_of_stroke_open<C: ColorRule>(
     Ok(size_of(points, feathering, stroke))
 }
 
-/// Strokes the path as an open line, whole or not at all. Drawing leaves the moved points in the path.
+/// Strokes the path as an open line, whole or not at all. The path keeps its points where the stroke moved them.
 pub fn stroke_open<C: ColorRule>(
     path: &mut Path,
     feathering: f32,
