@@ -1,4 +1,5 @@
 -- What a path builder answers and leaves.
+use mathlib.Core.Path.{_≡_}
 use mathlib.Core.Bool.{Bool, cond, _&&_}
 use mathlib.Core.List.{List, [], _∷_}
 use Prim.Native.Nat.{ℕ}
@@ -6,6 +7,7 @@ use lib.Dec.{leb, ltb}
 use lib.ListN.{length}
 use Rattle.std.specs.declared.result.Result.{Result}
 use Rattle.std.specs.declared.result.Result.the-variants.{Ok, Err}
+use Rattle.emath.specs.Answers as Answers
 use Rattle.emath.specs.Answers.{Answer}
 use Rattle.emath.specs.Limits.{isPlace, allPlaces, isVector}
 use Rattle.emath.specs.declared.plane.Pos2.{Pos2}
@@ -43,3 +45,21 @@ lineAdded places h =
     cond (allPlaces places)
     (cond (ltb (length places) 2) (declined TooFewPoints h) (appended h (openPoints places)))
     (declined OutOfLimits h)
+
+-- ---- what every builder keeps to
+
+-- points that lie at these places, in order: at each one point, or two where a corner is cut off
+pub data Along : List Pos2 → List PathPoint → Type 0 where
+  done : Along [] []
+  once : (p : Pos2) (n : Vec2) {places : List Pos2} {points : List PathPoint} → Along places points → Along (p ∷ places) (point p n ∷ points)
+  twice : (p : Pos2) (n m : Vec2) {places : List Pos2} {points : List PathPoint} → Along places points → Along (p ∷ places) (point p n ∷ point p m ∷ points)
+
+-- Accepted, a builder adds points along its places behind those that were there. Refused, it changes nothing.
+pub record Behind (places : List Pos2) (h h′ : Held PathPoint) : Type 0 where
+  pub added : List PathPoint
+  pub along : Along places added
+  pub path : h′ ≡ extended h added
+
+abbrev pub Extends : Answer (Unit {0}) → List Pos2 → Held PathPoint → Held PathPoint → Type 0
+Extends (Answers.accepted t) places h h′ = Behind places h h′
+Extends (Answers.refused number values) places h h′ = h′ ≡ h

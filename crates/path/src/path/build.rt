@@ -14,7 +14,8 @@ ghost use mathlib.Core.Path.{_≡_};
 ghost use mathlib.Core.List.{[], _∷_};
 ghost use Prim.Native.Nat.{_≤_};
 ghost use lib.ListN.{length};
-ghost use Rattle.path.specs.Builders.{left, reserved, pointAdded, lineAdded};
+ghost use Rattle.path.specs.Builders.{Extends, left, reserved, pointAdded, lineAdded};
+ghost use Rattle.path.specs.Faults.{told};
 ghost use Rattle.path.specs.Held.{pathState, extended, room};
 ghost use Rattle.path.specs.Lines.{cornerPoints, openPoints};
 
@@ -48,7 +49,8 @@ impl<'a> Path<'a> {
 
     /// One point with its normal.
     pub fn add_point(&mut self, pos: Pos2, normal: Vec2) -> Result<(), PathFault>
-        ensures { λ r. ⌜ left r (now (self .exit)) ≡ pointAdded pos normal (pathState (now (self .entry))) ⌝ }
+        ensures outcome { λ r. ⌜ left r (now (self .exit)) ≡ pointAdded pos normal (pathState (now (self .entry))) ⌝ }
+        ensures extends { λ r. ⌜ Extends (told r) (pos ∷ []) (pathState (now (self .entry))) (pathState (now (self .exit))) ⌝ }
     {
         if !is_place(pos) || !is_vector(normal) {
             return Err(PathFault::OutOfLimits);
@@ -60,7 +62,8 @@ impl<'a> Path<'a> {
 
     /// A straight line between two places.
     pub fn add_line_segment(&mut self, a: Pos2, b: Pos2) -> Result<(), PathFault>
-        ensures { λ r. ⌜ left r (now (self .exit)) ≡ lineAdded (a ∷ b ∷ []) (pathState (now (self .entry))) ⌝ }
+        ensures outcome { λ r. ⌜ left r (now (self .exit)) ≡ lineAdded (a ∷ b ∷ []) (pathState (now (self .entry))) ⌝ }
+        ensures extends { λ r. ⌜ Extends (told r) (a ∷ b ∷ []) (pathState (now (self .entry))) (pathState (now (self .exit))) ⌝ }
     {
         if !is_place(a) || !is_place(b) {
             return Err(PathFault::OutOfLimits);
@@ -74,7 +77,8 @@ impl<'a> Path<'a> {
 
     /// An open line over the places. A corner sharper than a right angle gets two points.
     pub fn add_open_points(&mut self, places: &[Pos2]) -> Result<(), PathFault>
-        ensures { λ r. ⌜ left r (now (self .exit)) ≡ lineAdded (now (places .entry)) (pathState (now (self .entry))) ⌝ }
+        ensures outcome { λ r. ⌜ left r (now (self .exit)) ≡ lineAdded (now (places .entry)) (pathState (now (self .entry))) ⌝ }
+        ensures extends { λ r. ⌜ Extends (told r) (now (places .entry)) (pathState (now (self .entry))) (pathState (now (self .exit))) ⌝ }
     {
         if !all_places(places) {
             return Err(PathFault::OutOfLimits);
