@@ -3,19 +3,19 @@
 mod tests {
     use cutting::cut::split_to_u16;
     use cutting::part::Part;
+    use ecolor::color::Color32;
+    use ecolor::rule::Solid;
+    use ecolor::rule::SolidRule;
+    use ecolor::vertex::TextureId;
     use emath::plane::Pos2;
     use emath::plane::Vec2;
     use path::path::Path;
     use path::point::PathPoint;
     use std::test::*;
-    use tessellator::color::Color32;
     use tessellator::mesh::Mesh;
-    use tessellator::rule::Solid;
-    use tessellator::rule::SolidRule;
     use tessellator::stroke::PathStroke;
     use tessellator::stroke::StrokeKind;
     use tessellator::stroke::open::size_of_stroke_open;
-    use tessellator::vertex::TextureId;
 
     const ORIGIN: Pos2 = Pos2 { x: 0.0, y: 0.0 };
 

@@ -2,21 +2,21 @@
 //! epaint 0.36.2 on the same lines.
 use cutting::cut::split_to_u16;
 use cutting::part::Part;
+use ecolor::color::Color32;
+use ecolor::rule::Solid;
+use ecolor::rule::SolidRule;
+use ecolor::vertex::TextureId;
+use ecolor::vertex::Vertex;
 use emath::plane::Pos2;
 use emath::plane::Vec2;
 use path::path::Path;
 use path::point::PathPoint;
 use std::error::AnyError;
-use tessellator::color::Color32;
 use tessellator::finished::Finished;
 use tessellator::mesh::Mesh;
-use tessellator::rule::Solid;
-use tessellator::rule::SolidRule;
 use tessellator::stroke::PathStroke;
 use tessellator::stroke::StrokeKind;
 use tessellator::stroke::open::stroke_open;
-use tessellator::vertex::TextureId;
-use tessellator::vertex::Vertex;
 
 const ORIGIN: Pos2 = Pos2 { x: 0.0, y: 0.0 };
 

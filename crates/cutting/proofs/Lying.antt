@@ -7,7 +7,7 @@ use lib.ListN.{length, getD}
 use Rattle.std.specs.shelf.Lists.{All}
 use Rattle.std.proofs.shelf.Lists.{length-append, length-map, getD-append-left, getD-append-add, getD-map}
 use Rattle.tessellator.specs.Triangles.{Triangle, tri, flat}
-use Rattle.tessellator.specs.declared.vertex.TextureId.{TextureId}
+use Rattle.ecolor.specs.declared.vertex.TextureId.{TextureId}
 use Rattle.cutting.specs.Cutting.{span, highest, joined, Legal}
 use Rattle.cutting.specs.Parts.{part, least, less, lowered, partsFrom}
 use Rattle.cutting.specs.Promises.{InRow}

@@ -10,7 +10,7 @@ use Rattle.std.specs.shelf.Lists.{between}
 use Rattle.std.proofs.shelf.Lists.{append-nil, drop-all, length-map, length-take, length-drop}
 use Rattle.std.proofs.shelf.Tests.{cases-lt}
 use Rattle.tessellator.specs.Triangles.{Triangle, flat, triples}
-use Rattle.tessellator.specs.declared.vertex.TextureId.{TextureId}
+use Rattle.ecolor.specs.declared.vertex.TextureId.{TextureId}
 use Rattle.cutting.specs.Cutting.{cut, span}
 use Rattle.cutting.specs.Outcome.{onFront}
 use Rattle.cutting.specs.Parts.{part, least, less, lowered, partsFrom}

@@ -8,8 +8,8 @@ use Rattle.std.specs.declared.option.Option.{Option}
 use Rattle.std.specs.declared.option.Option.the-variants.{Some, None}
 use Rattle.tessellator.specs.State.{MeshState}
 use Rattle.tessellator.specs.Triangles.{Triangle, tri, flat}
-use Rattle.tessellator.specs.declared.vertex.TextureId.{TextureId}
-use Rattle.tessellator.specs.declared.vertex.Vertex.{Vertex}
+use Rattle.ecolor.specs.declared.vertex.TextureId.{TextureId}
+use Rattle.ecolor.specs.declared.vertex.Vertex.{Vertex}
 use Rattle.cutting.specs.Cutting.{lowest, span}
 use Rattle.cutting.specs.declared.part.Part.{Part}
 

@@ -14,8 +14,8 @@ use crate::fault::CutFault;
 use crate::part::Part;
 use crate::span::MAX_SPAN;
 use crate::span::Span;
+use ecolor::vertex::TextureId;
 use tessellator::finished::Finished;
-use tessellator::vertex::TextureId;
 
 /// Refuses where there is no space for so many indices and parts.
 fn check_space(

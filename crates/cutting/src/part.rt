@@ -3,9 +3,9 @@ ghost use mathlib.Core.Path.{_≡_};
 ghost use Rattle.std.specs.Options.{mapped};
 ghost use Rattle.tessellator.specs.State.{finishedState};
 ghost use Rattle.cutting.specs.Parts.{verticesOf};
+use ecolor::vertex::TextureId;
+use ecolor::vertex::Vertex;
 use tessellator::finished::Finished;
-use tessellator::vertex::TextureId;
-use tessellator::vertex::Vertex;
 
 /// A row of vertices and a row of indices of the mesh. The 16-bit indices count from the part's first vertex.
 #[derive(Clone, Copy)]

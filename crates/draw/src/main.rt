@@ -6,17 +6,17 @@ use drawing_file::listing::Parts;
 use drawing_file::listing::PartsDisplay;
 use drawing_file::listing::RefusalDisplay;
 use drawing_file::runner::Runner;
+use ecolor::color::Color32;
+use ecolor::vertex::TextureId;
+use ecolor::vertex::Vertex;
 use emath::plane::Pos2;
 use emath::plane::Vec2;
 use path::path::Path;
 use path::point::PathPoint;
 use std::error::AnyError;
 use std::io::ReadMethods;
-use tessellator::color::Color32;
 use tessellator::finished::Finished;
 use tessellator::mesh::Mesh;
-use tessellator::vertex::TextureId;
-use tessellator::vertex::Vertex;
 
 /// One byte more than a file may have, so that a longer one is seen.
 const READ_BYTES: u64 = 49_153;

@@ -11,7 +11,7 @@ use Rattle.std.specs.declared.option.Option.the-variants.{Some, None}
 use Rattle.std.specs.declared.result.Result.{Result}
 use Rattle.std.specs.declared.result.Result.the-variants.{Ok, Err}
 use Rattle.emath.specs.Answers.{Answer, accepted, refused}
-use Rattle.tessellator.specs.Colors.{isTransparent}
+use Rattle.ecolor.specs.Colors.{isTransparent}
 use Rattle.tessellator.specs.Outcome.{Outcome}
 use Rattle.tessellator.specs.declared.fault.Appended.{Appended}
 use Rattle.drawing_file.specs.Faults.{Cause, heard}

@@ -12,7 +12,7 @@ use Rattle.tessellator.specs.State.{MeshState}
 use Rattle.tessellator.specs.Strokes.{Pen, openPen, strokeAllowed, strokeFigure}
 use Rattle.tessellator.specs.declared.fault.Appended.{Appended}
 use Rattle.tessellator.specs.declared.fault.FigureFault.{FigureFault}
-use Rattle.tessellator.specs.declared.rule.Solid.{Solid}
+use Rattle.ecolor.specs.declared.rule.Solid.{Solid}
 use Rattle.tessellator.specs.declared.stroke.PathStroke.{PathStroke}
 use Rattle.drawing_file.specs.Solids.{solidOutcome}
 

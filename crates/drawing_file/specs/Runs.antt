@@ -12,7 +12,7 @@ use Rattle.std.specs.declared.result.Result.the-variants.{Ok, Err}
 use Rattle.emath.specs.declared.plane.Pos2.{Pos2}
 use Rattle.path.specs.Held.{Held, pathState, emptied}
 use Rattle.path.specs.declared.point.PathPoint.{PathPoint}
-use Rattle.tessellator.specs.Colors.{isTransparent}
+use Rattle.ecolor.specs.Colors.{isTransparent}
 use Rattle.tessellator.specs.Outcome.{Outcome}
 use Rattle.tessellator.specs.State.{MeshState, meshState}
 use Rattle.tessellator.specs.declared.fault.Appended.{Appended}

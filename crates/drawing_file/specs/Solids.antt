@@ -6,7 +6,7 @@ use Rattle.path.specs.declared.point.PathPoint.{PathPoint}
 use Rattle.tessellator.specs.Outcome.{Outcome}
 use Rattle.tessellator.specs.State.{MeshState}
 use Rattle.tessellator.specs.Strokes.{openPen, strokeOutcome}
-use Rattle.tessellator.specs.declared.rule.Solid.{Solid}
+use Rattle.ecolor.specs.declared.rule.Solid.{Solid}
 use Rattle.tessellator.specs.declared.stroke.PathStroke.{PathStroke}
 
 unfoldable pub solidOutcome : Float → PathStroke Solid → Held PathPoint → MeshState → Outcome

@@ -7,8 +7,8 @@ use lib.Ieee.{Float, binary32, ofBits}
 use lib.ListN.{length, getD}
 use Rattle.std.specs.Iters.{counting}
 use Rattle.emath.specs.declared.plane.Pos2.{Pos2}
-use Rattle.tessellator.specs.declared.color.Color32.{Color32}
-use Rattle.tessellator.specs.declared.rule.Solid.{Solid}
+use Rattle.ecolor.specs.declared.color.Color32.{Color32}
+use Rattle.ecolor.specs.declared.rule.Solid.{Solid}
 use Rattle.tessellator.specs.declared.stroke.StrokeKind.{StrokeKind}
 use Rattle.tessellator.specs.declared.stroke.StrokeKind.the-variants.{Inside, Middle, Outside}
 use Rattle.drawing_file.specs.declared.decode.Paint.{Paint}

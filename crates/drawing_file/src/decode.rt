@@ -5,11 +5,11 @@ ghost use Prim.Native.Nat.{_+_, _/_, _≤_};
 ghost use lib.ListN.{length, drop};
 ghost use Rattle.emath.specs.Limits.{allPlaces};
 ghost use Rattle.drawing_file.specs.Values.{fraction, place, placesOf, color, kind, paintOf};
+use ecolor::color::Color32;
+use ecolor::rule::Solid;
 use emath::limits::is_place;
 use emath::plane::Pos2;
 use std::num;
-use tessellator::color::Color32;
-use tessellator::rule::Solid;
 use tessellator::stroke::PathStroke;
 use tessellator::stroke::StrokeKind;
 

@@ -4,12 +4,12 @@ ghost use Rattle.path.specs.Held.{pathState};
 ghost use Rattle.tessellator.specs.Outcome.{after};
 ghost use Rattle.tessellator.specs.State.{meshState};
 ghost use Rattle.drawing_file.specs.Solids.{solidOutcome};
+use ecolor::rule::Solid;
+use ecolor::rule::SolidRule;
 use path::path::Path;
 use tessellator::fault::Appended;
 use tessellator::fault::FigureFault;
 use tessellator::mesh::Mesh;
-use tessellator::rule::Solid;
-use tessellator::rule::SolidRule;
 use tessellator::stroke::PathStroke;
 use tessellator::stroke::open::stroke_open;
 

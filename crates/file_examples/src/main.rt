@@ -2,15 +2,15 @@
 use drawing_file::listing::FigureDisplay;
 use drawing_file::listing::RefusalDisplay;
 use drawing_file::runner::Runner;
+use ecolor::color::Color32;
+use ecolor::vertex::TextureId;
+use ecolor::vertex::Vertex;
 use emath::plane::Pos2;
 use emath::plane::Vec2;
 use path::path::Path;
 use path::point::PathPoint;
 use std::error::AnyError;
-use tessellator::color::Color32;
 use tessellator::mesh::Mesh;
-use tessellator::vertex::TextureId;
-use tessellator::vertex::Vertex;
 
 const ORIGIN: Pos2 = Pos2 { x: 0.0, y: 0.0 };
 

@@ -1,23 +1,23 @@
 //! Open strokes of each style and kind, printed in full. The expected output was made by running the crate epaint 0.36.2
 //! on the same lines and strokes.
+use ecolor::color::Color32;
+use ecolor::rule::ColorRule;
+use ecolor::rule::Solid;
+use ecolor::rule::SolidRule;
+use ecolor::rule::Zones;
+use ecolor::rule::ZonesRule;
+use ecolor::vertex::TextureId;
+use ecolor::vertex::Vertex;
 use emath::plane::Pos2;
 use emath::plane::Vec2;
 use path::path::Path;
 use path::point::PathPoint;
 use std::error::AnyError;
 use std::num::f32_to_bits_with_nan;
-use tessellator::color::Color32;
 use tessellator::mesh::Mesh;
-use tessellator::rule::ColorRule;
-use tessellator::rule::Solid;
-use tessellator::rule::SolidRule;
-use tessellator::rule::Zones;
-use tessellator::rule::ZonesRule;
 use tessellator::stroke::PathStroke;
 use tessellator::stroke::StrokeKind;
 use tessellator::stroke::open::stroke_open;
-use tessellator::vertex::TextureId;
-use tessellator::vertex::Vertex;
 
 const ORIGIN: Pos2 = Pos2 { x: 0.0, y: 0.0 };
 

@@ -16,7 +16,7 @@ use Rattle.path.specs.declared.point.PathPoint.{PathPoint}
 use Rattle.tessellator.specs.Outcome.{Figure, Outcome, Added, Grows, Sized, outcome, settled, drawn, refusalOf, sizeOf, sizing, trianglesOf}
 use Rattle.tessellator.specs.State.{MeshState, withVertices, withTriangles, vertexRoom, indexRoom}
 use Rattle.tessellator.specs.Triangles.{flat, raised}
-use Rattle.tessellator.specs.Vertices.{isDefault}
+use Rattle.ecolor.specs.Vertices.{isDefault}
 use Rattle.tessellator.specs.declared.fault.Appended.{Appended}
 use Rattle.tessellator.specs.declared.fault.FigureFault.{FigureFault}
 use Rattle.tessellator.specs.declared.fault.FigureFault.the-variants.{OtherTexture, NoVertexSpace, NoIndexSpace}

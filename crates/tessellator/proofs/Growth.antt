@@ -10,7 +10,7 @@ use Rattle.std.proofs.shelf.Lists.{append-nil, drop-drop}
 use Rattle.tessellator.specs.Kinds.{each, cell, band, bands}
 use Rattle.tessellator.specs.State.{MeshState, appended, withVertices, withTriangles, vertexRoom, indexRoom}
 use Rattle.tessellator.specs.Triangles.{Triangle, tri, flat, raise, raised}
-use Rattle.tessellator.specs.declared.vertex.Vertex.{Vertex}
+use Rattle.ecolor.specs.declared.vertex.Vertex.{Vertex}
 
 flat-append : (ts us : List Triangle) → flat (ts ++ us) ≡ flat ts ++ flat us
 flat-append [] us = refl

@@ -10,7 +10,7 @@ use Rattle.std.proofs.shelf.Lists.{take-more, joined-more, length-map}
 use Rattle.emath.specs.declared.plane.Pos2.{Pos2}
 use Rattle.path.specs.declared.point.PathPoint.{PathPoint}
 use Rattle.tessellator.specs.Rows.{vertexOf, verticesAt, rowVertices}
-use Rattle.tessellator.specs.declared.color.Color32.{Color32}
+use Rattle.ecolor.specs.declared.color.Color32.{Color32}
 use Rattle.tessellator.specs.declared.row.Row.{Row}
 
 module _ {X Y : Type 0} (f : X → List Y) where

@@ -9,13 +9,13 @@ use lib.ListN.{length, take, drop, length-append, length-take, length-drop}
 use Rattle.std.proofs.shelf.Lists.{take-all}
 use Rattle.emath.specs.declared.plane.Pos2.{Pos2}
 use Rattle.path.specs.declared.point.PathPoint.{PathPoint}
-use Rattle.tessellator.specs.Colors.{transparent}
+use Rattle.ecolor.specs.Colors.{transparent}
 use Rattle.tessellator.specs.Kinds.{line, band, bands, cap, plank, planks, triangles, rows}
 use Rattle.tessellator.specs.Outcome.{Fits, sizeOf, trianglesOf}
 use Rattle.tessellator.specs.Rows.{rowVertices}
 use Rattle.tessellator.specs.State.{MeshState, withVertices, vertexRoom, indexRoom}
 use Rattle.tessellator.specs.Strokes.{lineIn, lineIndices, LineFits, thickLine, hardRows, thinRows, thickRows, endRows}
-use Rattle.tessellator.specs.declared.color.Color32.{Color32}
+use Rattle.ecolor.specs.declared.color.Color32.{Color32}
 use Rattle.tessellator.specs.declared.fault.Appended.{Appended}
 use Rattle.tessellator.specs.declared.row.Row.{Row}
 use Rattle.tessellator.specs.declared.stroke.Style.{Style}

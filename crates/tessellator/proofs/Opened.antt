@@ -19,7 +19,7 @@ use Rattle.tessellator.specs.Kinds.{rows}
 use Rattle.tessellator.specs.Outcome.{Figure, Fits, Drawn, Outcome, Grows, Sized, nothing, sizeOf, meshAfter}
 use Rattle.tessellator.specs.State.{MeshState, withVertices}
 use Rattle.tessellator.specs.Strokes.{Pen, unjoined, isClear, centred, shrunk, styleOf, lineIn, lineIndices, LineFits, ruleOn, strokeIn, strokeAlong, strokeFigure, strokeAllowed, strokeOutcome, strokeSizing}
-use Rattle.tessellator.specs.declared.color.Color32.{Color32}
+use Rattle.ecolor.specs.declared.color.Color32.{Color32}
 use Rattle.tessellator.specs.declared.fault.Appended.{Appended}
 use Rattle.tessellator.specs.declared.stroke.StrokeKind.{StrokeKind}
 use Rattle.tessellator.specs.declared.stroke.StrokeKind.the-variants.{Inside, Middle, Outside}

@@ -8,12 +8,12 @@ use Rattle.emath.specs.Plane as plane
 use Rattle.emath.specs.declared.plane.Pos2.{Pos2}
 use Rattle.path.specs.declared.point.PathPoint.{PathPoint}
 use Rattle.path.specs.declared.point.Side.the-variants.{Outward, Along, Inward}
-use Rattle.tessellator.specs.Colors.{isTransparent, transparent}
+use Rattle.ecolor.specs.Colors.{isTransparent, transparent}
 use Rattle.tessellator.specs.Kinds.{hard-fill, feathered-fill}
 use Rattle.tessellator.specs.Outcome.{Figure, nothing, shaped}
 use Rattle.tessellator.specs.Rows.{rowVertices}
 use Rattle.tessellator.specs.Turns.{turned}
-use Rattle.tessellator.specs.declared.color.Color32.{Color32}
+use Rattle.ecolor.specs.declared.color.Color32.{Color32}
 use Rattle.tessellator.specs.declared.row.Paint.the-variants.{Flat}
 use Rattle.tessellator.specs.declared.row.Row.{Row}
 

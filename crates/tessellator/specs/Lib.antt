@@ -1,13 +1,10 @@
 pub mod Boxes
-pub mod Colors
 pub mod Faults
 pub mod Fills
 pub mod Kinds
 pub mod Outcome
 pub mod Rows
-pub mod Rules
 pub mod State
 pub mod Strokes
 pub mod Triangles
 pub mod Turns
-pub mod Vertices

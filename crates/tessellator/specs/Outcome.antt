@@ -19,12 +19,12 @@ use Rattle.tessellator.specs.Kinds as Kinds
 use Rattle.tessellator.specs.Kinds.{Kind, triangles}
 use Rattle.tessellator.specs.State.{MeshState, meshState, appended, vertexRoom, indexRoom}
 use Rattle.tessellator.specs.Triangles.{Triangle}
-use Rattle.tessellator.specs.Vertices.{isDefault}
+use Rattle.ecolor.specs.Vertices.{isDefault}
 use Rattle.tessellator.specs.declared.fault.Appended.{Appended}
 use Rattle.tessellator.specs.declared.fault.FigureFault.{FigureFault}
 use Rattle.tessellator.specs.declared.fault.FigureFault.the-variants.{OutOfLimits, OtherTexture, NoVertexSpace, NoIndexSpace}
 use Rattle.tessellator.specs.declared.mesh.Mesh.{Mesh}
-use Rattle.tessellator.specs.declared.vertex.Vertex.{Vertex}
+use Rattle.ecolor.specs.declared.vertex.Vertex.{Vertex}
 
 -- What a draw stands for: the kind says which triangles there are among its vertices.
 pub record Figure : Type 0 where

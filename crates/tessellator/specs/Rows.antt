@@ -4,13 +4,13 @@ use Rattle.std.specs.Joined.{joined}
 use Rattle.emath.specs.declared.plane.Pos2.{Pos2}
 use Rattle.path.specs.Points.{placeOf}
 use Rattle.path.specs.declared.point.PathPoint.{PathPoint}
-use Rattle.tessellator.specs.Colors.{faded}
-use Rattle.tessellator.specs.Vertices.{untextured}
-use Rattle.tessellator.specs.declared.color.Color32.{Color32}
+use Rattle.ecolor.specs.Colors.{faded}
+use Rattle.ecolor.specs.Vertices.{untextured}
+use Rattle.ecolor.specs.declared.color.Color32.{Color32}
 use Rattle.tessellator.specs.declared.row.Paint.{Paint}
 use Rattle.tessellator.specs.declared.row.Paint.the-variants.{Flat, Core, Faded}
 use Rattle.tessellator.specs.declared.row.Row.{Row}
-use Rattle.tessellator.specs.declared.vertex.Vertex.{Vertex}
+use Rattle.ecolor.specs.declared.vertex.Vertex.{Vertex}
 
 -- the colour of a vertex, where `rule` says the core's
 abbrev pub colorOf : (Pos2 → Color32) → Paint → Pos2 → Color32

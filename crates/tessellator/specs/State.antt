@@ -6,8 +6,8 @@ use denote.Ref.{now}
 use Rattle.tessellator.specs.Triangles.{Triangle, flat, raised}
 use Rattle.tessellator.specs.declared.finished.Finished.{Finished}
 use Rattle.tessellator.specs.declared.mesh.Mesh.{Mesh}
-use Rattle.tessellator.specs.declared.vertex.TextureId.{TextureId}
-use Rattle.tessellator.specs.declared.vertex.Vertex.{Vertex}
+use Rattle.ecolor.specs.declared.vertex.TextureId.{TextureId}
+use Rattle.ecolor.specs.declared.vertex.Vertex.{Vertex}
 
 pub record MeshState : Type 0 where
   pub vertices : List Vertex

@@ -18,14 +18,14 @@ use Rattle.path.specs.declared.point.PathPoint.{PathPoint}
 use Rattle.path.specs.declared.point.Side.{Side}
 use Rattle.path.specs.declared.point.Side.the-variants.{Outward, Along, Inward, OutwardPast, InwardPast}
 use Rattle.tessellator.specs.Boxes.{strokeBox}
-use Rattle.tessellator.specs.Colors.{transparent, isTransparent}
+use Rattle.ecolor.specs.Colors.{transparent, isTransparent}
 use Rattle.tessellator.specs.Fills.{fillFigure, half}
 use Rattle.tessellator.specs.Kinds.{Kind, line, loop, filled, rows}
 use Rattle.tessellator.specs.Outcome.{Figure, Outcome, nothing, shaped, outcome, sizing}
 use Rattle.tessellator.specs.Rows.{rowVertices}
 use Rattle.tessellator.specs.State.{MeshState, vertexRoom, indexRoom}
 use Rattle.tessellator.specs.Turns.{turned}
-use Rattle.tessellator.specs.declared.color.Color32.{Color32}
+use Rattle.ecolor.specs.declared.color.Color32.{Color32}
 use Rattle.tessellator.specs.declared.fault.Appended.{Appended}
 use Rattle.tessellator.specs.declared.row.Paint.the-variants.{Flat, Core, Faded}
 use Rattle.tessellator.specs.declared.row.Row.{Row}
@@ -34,7 +34,7 @@ use Rattle.tessellator.specs.declared.stroke.StrokeKind.{StrokeKind}
 use Rattle.tessellator.specs.declared.stroke.StrokeKind.the-variants.{Inside, Middle, Outside}
 use Rattle.tessellator.specs.declared.stroke.Style.{Style}
 use Rattle.tessellator.specs.declared.stroke.Style.the-variants.{Hard, Thin, Thick}
-use Rattle.tessellator.specs.declared.vertex.Vertex.{Vertex}
+use Rattle.ecolor.specs.declared.vertex.Vertex.{Vertex}
 
 -- ---- the rows beside the path
 

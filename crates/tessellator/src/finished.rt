@@ -3,8 +3,8 @@ ghost use mathlib.Core.Path.{_≡_};
 ghost use Prim.Native.Nat.{ℕ, _%_, _<_, _≤_};
 ghost use lib.ListN.{length, getD};
 ghost use denote.Ref.{now};
-use crate::vertex::TextureId;
-use crate::vertex::Vertex;
+use ecolor::vertex::TextureId;
+use ecolor::vertex::Vertex;
 
 pub mod read;
 

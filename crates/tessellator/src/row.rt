@@ -1,5 +1,5 @@
 //! Rows of vertices that run beside a path, one vertex of each row for each point.
-use crate::color::Color32;
+use ecolor::color::Color32;
 use path::point::Side;
 
 /// The colour of a row: one for all of it, or what the colour rule answers at each place, whole or faded by a factor.

@@ -2,7 +2,7 @@
 use mathlib.Core.Bool.{cond}
 use lib.Ieee.{lt}
 use Rattle.emath.specs.declared.plane.Pos2.{Pos2}
-use Rattle.tessellator.specs.declared.color.Color32.{Color32}
+use Rattle.ecolor.specs.declared.color.Color32.{Color32}
 use Rattle.two_tone.specs.declared.TwoTone.{TwoTone}
 
 abbrev pub toneAt : TwoTone → Pos2 → Color32

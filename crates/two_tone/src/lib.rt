@@ -1,12 +1,12 @@
 //! A colour rule supplied from outside the drawing library: one colour left of a border, another from it on.
+use ecolor::color::Color32;
+use ecolor::rule::ColorRule;
 use emath::plane::Pos2;
 use emath::rect::Rect;
 use path::path::Path;
-use tessellator::color::Color32;
 use tessellator::fault::Appended;
 use tessellator::fault::FigureFault;
 use tessellator::mesh::Mesh;
-use tessellator::rule::ColorRule;
 use tessellator::stroke::PathStroke;
 use tessellator::stroke::open::stroke_open;
 ghost use mathlib.Core.Path.{_≡_};

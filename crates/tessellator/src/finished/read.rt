@@ -2,8 +2,8 @@
 ghost use mathlib.Core.Path.{_≡_};
 ghost use Rattle.tessellator.specs.State.{finishedState};
 use super::Finished;
-use crate::vertex::TextureId;
-use crate::vertex::Vertex;
+use ecolor::vertex::TextureId;
+use ecolor::vertex::Vertex;
 
 impl<'a> Finished<'a> {
     /// The vertices of the mesh.

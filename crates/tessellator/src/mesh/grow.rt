@@ -6,7 +6,7 @@ ghost use lib.ListN.{length};
 ghost use Rattle.tessellator.specs.State.{meshState, withVertices, withTriangles, vertexRoom, indexRoom};
 ghost use Rattle.tessellator.specs.Triangles.{tri};
 use super::Mesh;
-use crate::vertex::Vertex;
+use ecolor::vertex::Vertex;
 
 impl<'a> Mesh<'a> {
     pub(crate) fn add_vertex(&mut self, vertex: Vertex)

@@ -2,8 +2,8 @@
 ghost use mathlib.Core.Path.{_≡_};
 ghost use Rattle.tessellator.specs.State.{meshState, emptyMesh};
 use super::Mesh;
-use crate::vertex::TextureId;
-use crate::vertex::Vertex;
+use ecolor::vertex::TextureId;
+use ecolor::vertex::Vertex;
 
 impl<'a> Mesh<'a> {
     /// An empty mesh in lent memory.

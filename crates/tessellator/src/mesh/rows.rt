@@ -7,8 +7,8 @@ ghost use Rattle.tessellator.specs.State.{meshState, withVertices, vertexRoom}
 use super::Mesh;
 use crate::row::Paint;
 use crate::row::Row;
-use crate::rule::ColorRule;
-use crate::vertex::Vertex;
+use ecolor::rule::ColorRule;
+use ecolor::vertex::Vertex;
 use emath::rect::Rect;
 use path::point::PathPoint;
 

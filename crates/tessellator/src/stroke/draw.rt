@@ -10,9 +10,9 @@ ghost use Rattle.tessellator.specs.declared.stroke.Style.the-variants.{Hard, T
 use super::PathStroke;
 use super::Style;
 use super::rows;
-use crate::color::Color32;
 use crate::mesh::Mesh;
-use crate::rule::ColorRule;
+use ecolor::color::Color32;
+use ecolor::rule::ColorRule;
 use emath::rect::Rect;
 use path::point::PathPoint;
 use path::point::PointLocated;

@@ -15,7 +15,7 @@ use super::draw::draw_along;
 use crate::fault::Appended;
 use crate::fault::FigureFault;
 use crate::mesh::Mesh;
-use crate::rule::ColorRule;
+use ecolor::rule::ColorRule;
 use emath::limits::all_places;
 use emath::limits::is_distance;
 use path::path::Path;

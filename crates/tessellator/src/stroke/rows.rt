@@ -2,9 +2,9 @@
 ghost use mathlib.Core.Path.{_≡_};
 ghost use Rattle.tessellator.specs.Strokes as strokes;
 use super::Style;
-use crate::color::Color32;
 use crate::row::Paint;
 use crate::row::Row;
+use ecolor::color::Color32;
 use emath::plane::fast_midpoint;
 use path::point::Side;
 

@@ -1,7 +1,7 @@
 //! Colours of four bytes.
 use std::num::saturating_f32_to_u8;
 ghost use mathlib.Core.Path.{_≡_};
-ghost use Rattle.tessellator.specs.Colors as colors;
+ghost use Rattle.ecolor.specs.Colors as colors;
 
 /// Red, green, blue and alpha. Only the colour whose bytes are all 0 is transparent.
 #[derive(Clone, Copy)]

@@ -4,7 +4,7 @@ use Prim.Native.Nat.{ℕ}
 use lib.Dec.{eqb}
 use lib.Ieee.{Float, binary32, ofBits, ofInt, toUnsigned, add, mul}
 use lib.IntN.{pos}
-use Rattle.tessellator.specs.declared.color.Color32.{Color32}
+use Rattle.ecolor.specs.declared.color.Color32.{Color32}
 
 abbrev pub transparent : Color32
 transparent = record { r = 0; g = 0; b = 0; a = 0 }

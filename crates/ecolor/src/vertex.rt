@@ -2,7 +2,7 @@
 use crate::color::Color32;
 use emath::plane::Pos2;
 ghost use mathlib.Core.Path.{_≡_};
-ghost use Rattle.tessellator.specs.Vertices as vertices;
+ghost use Rattle.ecolor.specs.Vertices as vertices;
 
 /// Which texture a mesh is drawn with.
 #[derive(Clone, Copy)]

@@ -3,8 +3,8 @@ use mathlib.Core.Bool.{cond}
 use lib.Ieee.{Float, binary32, ofBits, sub, div, lt}
 use Rattle.emath.specs.declared.plane.Pos2.{Pos2}
 use Rattle.emath.specs.declared.rect.Rect.{Rect}
-use Rattle.tessellator.specs.declared.color.Color32.{Color32}
-use Rattle.tessellator.specs.declared.rule.Zones.{Zones}
+use Rattle.ecolor.specs.declared.color.Color32.{Color32}
+use Rattle.ecolor.specs.declared.rule.Zones.{Zones}
 
 -- how far from the left of the box to its right a place lies
 abbrev pub across : Rect → Pos2 → Float

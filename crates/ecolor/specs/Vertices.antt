@@ -3,10 +3,10 @@ use mathlib.Core.Bool.{Bool, false}
 use lib.Dec.{eqb}
 use Rattle.emath.specs.Plane as plane
 use Rattle.emath.specs.declared.plane.Pos2.{Pos2}
-use Rattle.tessellator.specs.declared.color.Color32.{Color32}
-use Rattle.tessellator.specs.declared.vertex.TextureId.{TextureId}
-use Rattle.tessellator.specs.declared.vertex.TextureId.the-variants.{Managed, User}
-use Rattle.tessellator.specs.declared.vertex.Vertex.{Vertex}
+use Rattle.ecolor.specs.declared.color.Color32.{Color32}
+use Rattle.ecolor.specs.declared.vertex.TextureId.{TextureId}
+use Rattle.ecolor.specs.declared.vertex.TextureId.the-variants.{Managed, User}
+use Rattle.ecolor.specs.declared.vertex.Vertex.{Vertex}
 
 -- the default texture is Managed 0
 abbrev pub isDefault : TextureId → Bool

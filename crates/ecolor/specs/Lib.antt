@@ -1,0 +1,3 @@
+pub mod Colors
+pub mod Rules
+pub mod Vertices
