@@ -1,4 +1,6 @@
 //! Unit circles of 8, 16, 32, 64 and 128 steps, to six decimal places. The first entry is repeated last.
+#![tactic(auto)]
+
 ghost use Rattle.std.specs.Prelude.{◌≡◌};
 ghost use Rattle.circles.specs.Circles.{circle, entries, quarter_steps, UnitCircle};
 

@@ -1,5 +1,7 @@
 //! Thick lines of a few points and of many, cut for 16-bit indices. The expected output was made by running the crate
 //! epaint 0.36.2 on the same lines.
+#![tactic(auto)]
+
 use cutting::cut::split_to_u16;
 use cutting::part::Part;
 use ecolor::color::Color32;
@@ -10,7 +12,8 @@ use path::path::Path;
 use path::point::PathPoint;
 use tessellator::finished::Finished;
 use tessellator::mesh::Mesh;
-use tessellator::stroke::{PathStroke, PathType, StrokeKind, calls};
+use tessellator::stroke::open::stroke_open;
+use tessellator::stroke::{PathStroke, StrokeKind};
 
 const ORIGIN: Pos2 = Pos2 { x: 0.0, y: 0.0 };
 
@@ -95,7 +98,7 @@ fn print_line(rt: &HostRuntime, length: u16) -> anyhow::Result<()> {
         color: WHITE,
         kind: StrokeKind::Middle,
     };
-    if calls::stroke(&mut path, 1.0, PathType::Open, &stroke, &mut mesh).is_err() {
+    if stroke_open(&mut path, 1.0, &stroke, &mut mesh).is_err() {
         println!(rt; "stroke: refused")?;
     }
     print_parts(rt, &mesh.finish())

@@ -1,4 +1,6 @@
 //! Cutting a finished mesh into parts that 16-bit indices can name.
+#![tactic(auto)]
+
 pub mod cut;
 pub mod fault;
 pub mod part;

@@ -1,4 +1,6 @@
 //! Reads a drawing file from standard input, draws its figures into a mesh, and prints the listing.
+#![tactic(auto)]
+
 use anyhow::anyhow;
 use cutting::cut::split_to_u16;
 use cutting::part::Part;

@@ -5,7 +5,7 @@ use Rattle.std.proofs.lemmas.List.FromFn.{map-range_with_len_more, length-map-ra
 use Rattle.std.proofs.lemmas.List.{drop_more, set_at, take_at}
 use Rattle.emath.specs.Limits.{is_place, all_places}
 use Rattle.emath.specs.declared.plane.Pos2.{Pos2}
-use Rattle.path.specs.Builders.{Left, added, open_line, declined}
+use Rattle.path.specs.Builders.{Left, line_added, declined}
 use Rattle.path.specs.Held.{Held, emptied}
 use Rattle.path.specs.declared.point.PathPoint.{PathPoint}
 use Rattle.drawing_file.specs.Replaced.{crowding, replaced}
@@ -35,11 +35,11 @@ module _ (f : ℕ → Pos2) (i n : ℕ) where
 pub front_is : (b : List ℕ) (memory after : List Pos2) → after ≡ places_of b ++ drop (length b / 8) memory → take (length b / 8) after ≡ places_of b
 front_is b memory after e = ap (take (length b / 8)) e ∙ take_at (places_of b) (drop (length b / 8) memory) (length b / 8) (length-map-range_with_len (place_number b) 0 (length b / 8))
 
-pub replaced_where : (b : List ℕ) (path cleared : Held PathPoint) (memory after : List Pos2) (l : Left PathPoint) → length b / 8 ≤ length memory →
-    cleared ≡ emptied path → after ≡ places_of b ++ drop (length b / 8) memory → l ≡ added (open_line (take (length b / 8) after)) cleared →
+pub replaced_where : (b : List ℕ) (path cleared : Held PathPoint) (memory after : List Pos2) (l : Left) → length b / 8 ≤ length memory →
+    cleared ≡ emptied path → after ≡ places_of b ++ drop (length b / 8) memory → l ≡ line_added (take (length b / 8) after) cleared →
     record { line = l; places = after } ≡ replaced b path memory
-replaced_where b path cleared memory after l fits clear read built =
-    let line : l ≡ added (open_line (places_of b)) (emptied path) = built ∙ ap (λ ps. added (open_line ps) cleared) (front_is b memory after read) ∙ ap (added (open_line (places_of b))) clear in
+replaced_where b path cleared memory after l fits clear read added =
+    let line : l ≡ line_added (places_of b) (emptied path) = added ∙ ap (λ ps. line_added ps cleared) (front_is b memory after read) ∙ ap (line_added (places_of b)) clear in
     (λ i. record { line = line i; places = read i })
-    ∙ ap (λ v. cond v (record { line = declined (crowding b) (emptied path); places = memory }) (record { line = added (open_line (places_of b)) (emptied path); places = places_of b ++ drop (length b / 8) memory }))
+    ∙ ap (λ v. cond v (record { line = declined (crowding b) (emptied path); places = memory }) (record { line = line_added (places_of b) (emptied path); places = places_of b ++ drop (length b / 8) memory }))
     (sym (le-ltb (length memory) (length b / 8) fits))

@@ -6,11 +6,10 @@ use Rattle.path.specs.Held.{Held}
 use Rattle.path.specs.declared.point.PathPoint.{PathPoint}
 use Rattle.tessellator.specs.Outcome.{Figure, outcome, settled, refusal_of, size_of}
 use Rattle.tessellator.specs.State.{MeshState}
-use Rattle.tessellator.specs.Strokes.{Pen, pen_of, stroke_allowed, stroke_figure}
+use Rattle.tessellator.specs.Strokes.{Pen, open_pen, stroke_allowed, stroke_figure}
 use Rattle.tessellator.specs.declared.fault.Appended.{Appended}
 use Rattle.tessellator.specs.declared.fault.FigureFault.{FigureFault}
 use Rattle.ecolor.specs.declared.rule.Solid.{Solid}
-use Rattle.tessellator.specs.declared.stroke.Course.TheVariants.{Unjoined}
 use Rattle.tessellator.specs.declared.stroke.PathStroke.{PathStroke}
 use Rattle.drawing_file.specs.Solids.{solid_outcome}
 
@@ -30,5 +29,5 @@ pub refusal_spares : (feathering : Float) (stroke : PathStroke Solid) (path : He
     Spared (solid_outcome feathering stroke path mesh).answer mesh (solid_outcome feathering stroke path mesh).mesh
 unfolding solid_outcome
 refusal_spares feathering stroke path mesh =
-    let solid : Pen = pen_of (λ s _ _. s.color) (λ s. Some s.color) feathering Unjoined stroke in
+    let solid : Pen = open_pen (λ s _ _. s.color) (λ s. Some s.color) feathering stroke in
     outcome_spares (stroke_allowed solid path.used) (stroke_figure solid path.used) path mesh

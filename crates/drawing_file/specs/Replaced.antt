@@ -2,20 +2,20 @@
 use Rattle.std.specs.Prelude.{ℕ, ◌/◌, cond, List, ◌++◌, length, drop, Result, nat_lt}
 use Rattle.emath.specs.Limits.{all_places}
 use Rattle.emath.specs.declared.plane.Pos2.{Pos2}
-use Rattle.path.specs.Builders.{Left, left, declined, added, open_line}
+use Rattle.path.specs.Builders.{Left, left, declined, line_added}
 use Rattle.path.specs.Held.{Held, emptied}
 use Rattle.path.specs.declared.fault.PathFault.{PathFault}
 use Rattle.path.specs.declared.fault.PathFault.TheVariants.{OutOfLimits, TooFewPoints, NoSpace}
-use Rattle.path.specs.declared.slice_vec.SliceVec.{SliceVec}
+use Rattle.path.specs.declared.path.Path.{Path}
 use Rattle.path.specs.declared.point.PathPoint.{PathPoint}
 use Rattle.drawing_file.specs.Values.{places_of}
 
 -- what the path builder answers and leaves, and the memory for places
 pub record Replaced : Type 0 where
-  pub line : Left PathPoint
+  pub line : Left
   pub places : List Pos2
 
-abbrev pub remains : Result (Unit {0}) PathFault → SliceVec PathPoint → List Pos2 → Replaced
+abbrev pub remains : Result (Unit {0}) PathFault → Path → List Pos2 → Replaced
 remains r path places = record { line = left r path; places = places }
 
 -- a line with more places than the memory holds is refused, for the same reasons and in the same order as by the path
@@ -26,4 +26,4 @@ abbrev pub replaced : List ℕ → Held PathPoint → List Pos2 → Replaced
 replaced b path memory =
     cond (nat_lt (length memory) (length b / 8))
     (record { line = declined (crowding b) (emptied path); places = memory })
-    (record { line = added (open_line (places_of b)) (emptied path); places = places_of b ++ drop (length b / 8) memory })
+    (record { line = line_added (places_of b) (emptied path); places = places_of b ++ drop (length b / 8) memory })

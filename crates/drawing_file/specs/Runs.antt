@@ -1,7 +1,7 @@
 -- Running the records of a file.
 use Rattle.std.specs.Prelude.{ℕ, zero, suc, ◌+◌, ◌-◌, cond, List, length, Some, None, Ok, Err, Option, Result, ◌==◌, nat_lt}
 use Rattle.emath.specs.declared.plane.Pos2.{Pos2}
-use Rattle.path.specs.Held.{Held, held, emptied}
+use Rattle.path.specs.Held.{Held, path_state, emptied}
 use Rattle.path.specs.declared.point.PathPoint.{PathPoint}
 use Rattle.ecolor.specs.Colors.{is_transparent}
 use Rattle.tessellator.specs.Outcome.{Outcome}
@@ -36,7 +36,7 @@ abbrev pub run_state : Runner → RunState
 run_state r = record {
   rest = r.rest.now;
   size = r.size;
-  path = held r.path.now;
+  path = path_state r.path.now;
   places = r.places.memory.now;
   mesh = mesh_state r.mesh.now;
   waiting = r.waiting;
@@ -81,8 +81,8 @@ made s path places mesh waiting = record {
 
 -- A line replaces the path. Where it is refused, the path is empty and nothing waits.
 abbrev pub after_line : Result (Unit {0}) Cause → RunState → Replaced → Then (Result (Option Appended) Cause)
-after_line (Ok t) s l = then (Ok None) (made s l.line.after l.places s.mesh OpenLine)
-after_line (Err why) s l = then (Err why) (made s l.line.after l.places s.mesh Nothing)
+after_line (Ok t) s l = then (Ok None) (made s l.line.path l.places s.mesh OpenLine)
+after_line (Err why) s l = then (Err why) (made s l.line.path l.places s.mesh Nothing)
 
 abbrev pub lined : RunState → Replaced → Then (Result (Option Appended) Cause)
 lined s l = after_line (heard layer.Path l.line.answer) s l

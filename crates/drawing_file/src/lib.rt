@@ -1,4 +1,6 @@
 //! Drawing files: records of bytes, run one after the other into a mesh.
+#![tactic(auto)]
+
 mod decode;
 pub mod fault;
 mod line;

@@ -1,6 +1,6 @@
 //! Strokes of one colour.
 ghost use Rattle.std.specs.Prelude.{◌≡◌};
-ghost use Rattle.path.specs.Held.{held};
+ghost use Rattle.path.specs.Held.{path_state};
 ghost use Rattle.tessellator.specs.Outcome.{after};
 ghost use Rattle.tessellator.specs.State.{mesh_state};
 ghost use Rattle.drawing_file.specs.Solids.{solid_outcome};
@@ -9,7 +9,8 @@ use ecolor::rule::Solid;
 use path::path::Path;
 use tessellator::fault::{Appended, FigureFault};
 use tessellator::mesh::Mesh;
-use tessellator::stroke::{PathStroke, PathType, calls};
+use tessellator::stroke::PathStroke;
+use tessellator::stroke::open::stroke_open;
 
 /// Strokes a path as an open line of one colour.
 pub(crate) fn stroke_solid(
@@ -18,7 +19,7 @@ pub(crate) fn stroke_solid(
     stroke: &PathStroke<Solid>,
     out: &mut Mesh,
 ) -> Result<Appended, FigureFault>
-    ensures { after result path.new out.new ≡ solid_outcome feathering stroke.now (held path.old) (mesh_state out.old) }
+    ensures { after result path.new out.new ≡ solid_outcome feathering stroke.now (path_state path.old) (mesh_state out.old) }
 {
-    calls::stroke(path, feathering, PathType::Open, stroke, out)
+    stroke_open(path, feathering, stroke, out)
 }

@@ -1,4 +1,6 @@
 //! Numbers and places for painting: the square root of an `f32`, places, vectors, boxes and their limits.
+#![tactic(auto)]
+
 pub mod limits;
 pub mod located;
 pub mod plane;

@@ -20,7 +20,7 @@ pub fn is_place(p: Pos2) -> bool
 
 /// All of these lie at places within their limits.
 pub fn all_places<P: Located>(items: &[P]) -> bool
-    ensures { result ≡ limits.all_places (map place items.now) }
+    ensures { result ≡ limits.all_places (map P.place items.now) }
 {
     for item in items {
         if !is_place(item.pos()) {

@@ -1,4 +1,6 @@
 //! Drawing files, good and bad, and what the library answers of each. The expected output was written by hand from the format.
+#![tactic(auto)]
+
 use drawing_file::runner::Runner;
 use ecolor::color::Color32;
 use ecolor::vertex::{TextureId, Vertex};

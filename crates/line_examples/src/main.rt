@@ -1,5 +1,7 @@
 //! Open strokes of each style and kind, printed in full. The expected output was made by running the crate epaint 0.36.2
 //! on the same lines and strokes.
+#![tactic(auto)]
+
 use ecolor::color::Color32;
 use ecolor::rule::{ColorRule, Solid, Zones};
 use ecolor::vertex::{TextureId, Vertex};
@@ -8,7 +10,8 @@ use path::path::Path;
 use path::point::PathPoint;
 use std::num::f32_to_bits_with_nan;
 use tessellator::mesh::Mesh;
-use tessellator::stroke::{PathStroke, PathType, StrokeKind, calls};
+use tessellator::stroke::open::stroke_open;
+use tessellator::stroke::{PathStroke, StrokeKind};
 
 const ORIGIN: Pos2 = Pos2 { x: 0.0, y: 0.0 };
 
@@ -134,7 +137,7 @@ fn print_stroke<C: ColorRule>(
         let number = fault.number();
         println!(rt; "line: refused {number}")?;
     }
-    match calls::stroke(&mut path, feathering, PathType::Open, stroke, &mut mesh) {
+    match stroke_open(&mut path, feathering, stroke, &mut mesh) {
         Ok(size) => {
             let v = size.vertices;
             let i = size.indices;

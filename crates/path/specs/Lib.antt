@@ -1,9 +1,5 @@
-pub mod Arcs
 pub mod Builders
-pub mod Circling
 pub mod Faults
 pub mod Held
-pub mod Laws
 pub mod Lines
 pub mod Points
-pub mod Turns

@@ -1,10 +1,7 @@
 //! Paths: points with normals, in memory that the caller lends.
-mod arc;
-pub mod corner_radius;
+#![tactic(auto)]
+
 pub mod fault;
 mod line;
-mod on_circle;
 pub mod path;
-pub mod places;
 pub mod point;
-pub mod slice_vec;

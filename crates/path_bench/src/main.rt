@@ -1,5 +1,7 @@
 //! How long it takes to build open lines, loops and circles in memory that is lent once and used again. Standard output
 //! has the numbers of points, standard error the nanoseconds for each path: the least of many batches.
+#![tactic(auto)]
+
 use anyhow::anyhow;
 use emath::plane::{Pos2, Vec2};
 use path::fault::PathFault;

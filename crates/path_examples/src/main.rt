@@ -1,5 +1,7 @@
 //! What each builder leaves in a path or a list of places, printed by the bits of the numbers. The expected output was
 //! made by running the crate epaint 0.36.2 on the same arguments.
+#![tactic(auto)]
+
 mod cases;
 
 use anyhow::anyhow;

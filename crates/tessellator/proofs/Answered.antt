@@ -12,8 +12,7 @@ use Rattle.ecolor.specs.Vertices.{is_default}
 use Rattle.tessellator.specs.declared.fault.Appended.{Appended}
 use Rattle.tessellator.specs.declared.fault.FigureFault.{FigureFault}
 use Rattle.tessellator.specs.declared.fault.FigureFault.TheVariants.{OtherTexture, NoVertexSpace, NoIndexSpace}
-use Rattle.tessellator.proofs.Growth.{length-raised}
-use Rattle.tessellator.proofs.Triples.{length-flat}
+use Rattle.tessellator.proofs.Growth.{length-flat, length-raised}
 
 added : (figure : Figure) (p : Held PathPoint) (m : MeshState) → length figure.points ≡ length p.used → Added (size_of figure) p m (drawn figure p m).path (drawn figure p m).mesh
 unfolding with_vertices with_triangles

@@ -1,5 +1,4 @@
 pub mod Boxes
-pub mod Brushes
 pub mod Faults
 pub mod Fills
 pub mod Kinds
@@ -8,3 +7,4 @@ pub mod Rows
 pub mod State
 pub mod Strokes
 pub mod Triangles
+pub mod Turns

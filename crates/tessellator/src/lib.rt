@@ -1,10 +1,8 @@
 //! Stroked figures: triangles with colours, drawn into memory that the caller lends.
-mod brush;
-mod draw;
+#![tactic(auto)]
+
 pub mod fault;
-pub mod fill;
 pub mod finished;
-pub mod kind;
 pub mod mesh;
-pub mod row;
+mod row;
 pub mod stroke;

@@ -3,10 +3,8 @@ ghost use Rattle.std.specs.Prelude.{◌≡◌, ℕ, ◌%◌, ◌<◌, ◌≤◌,
 
 use ecolor::vertex::{TextureId, Vertex};
 
-pub mod append;
 pub mod finish;
 mod grow;
-mod kinds;
 pub mod read;
 mod room;
 mod rows;

@@ -1,9 +1,11 @@
 //! A colour rule supplied from outside the drawing library: one colour left of a border, another from it on.
+#![tactic(auto)]
+
 ghost use Rattle.std.specs.Prelude.{◌≡◌, false, None};
-ghost use Rattle.path.specs.Held.{held};
+ghost use Rattle.path.specs.Held.{path_state};
 ghost use Rattle.tessellator.specs.Outcome.{after};
 ghost use Rattle.tessellator.specs.State.{mesh_state};
-ghost use Rattle.tessellator.specs.Strokes.{course_of, pen_of, stroke_outcome};
+ghost use Rattle.tessellator.specs.Strokes.{open_pen, stroke_outcome};
 ghost use Rattle.two_tone.specs.Tones.{tone_at};
 ghost use Rattle.std.proofs.Common.{rules};
 
@@ -14,7 +16,8 @@ use emath::rect::Rect;
 use path::path::Path;
 use tessellator::fault::{Appended, FigureFault};
 use tessellator::mesh::Mesh;
-use tessellator::stroke::{PathStroke, PathType, calls};
+use tessellator::stroke::PathStroke;
+use tessellator::stroke::open::stroke_open;
 
 /// Does not read the box, and has no plain colour.
 #[derive(Clone, Copy)]
@@ -58,11 +61,10 @@ impl ColorRule for TwoTone {
 pub fn stroke_in_two_tones(
     path: &mut Path,
     feathering: f32,
-    path_type: PathType,
     stroke: &PathStroke<TwoTone>,
     out: &mut Mesh,
 ) -> Result<Appended, FigureFault>
-    ensures { after result path.new out.new ≡ stroke_outcome (pen_of (λ s _ p. tone_at s p) (λ _. None) feathering (course_of path_type) stroke.now) (held path.old) (mesh_state out.old) }
+    ensures { after result path.new out.new ≡ stroke_outcome (open_pen (λ s _ p. tone_at s p) (λ _. None) feathering stroke.now) (path_state path.old) (mesh_state out.old) }
 {
-    calls::stroke(path, feathering, path_type, stroke, out)
+    stroke_open(path, feathering, stroke, out)
 }

@@ -1,20 +1,45 @@
-use Rattle.std.proofs.Common.{◌≡◌, ◌≤◌, length, sym, ap, ◌∙◌, subst, arith}
-use Rattle.tessellator.specs.Kinds.{fewest, vertex_count, index_count}
-use Rattle.tessellator.specs.declared.kind.Kind.{Kind}
-use Rattle.tessellator.specs.declared.stroke.Style.TheVariants.{Thick}
-use Rattle.tessellator.proofs.Stroked.{kind_enough, thick_count}
-use Rattle.tessellator.proofs.Thick.{thick_counted}
+use Rattle.std.proofs.Common.{◌≡◌, ◌+◌, ◌-◌, ◌*◌, length, refl, arith}
+use Rattle.tessellator.specs.State.{mesh_state}
+use Rattle.tessellator.proofs.Growth.{index_room_left, vertices_kept, triangles_step, figure_drawn, length-bands}
+use Rattle.tessellator.proofs.Lined.{room_few, thick_counted}
 use Rattle.tessellator.proofs.stroke.draw.draw_thick.Goals as goal
 
-pub add-triangles-requires : goal.add-triangles-requires
-add-triangles-requires g c =
-    let n = length c.args.points.now in
-    let kind = c.kind-of-kind.ensures in
-    let fits = c.requires.2 in
-    let drawn = thick_counted c.args.feathering c.args.width (g.B.Brush.paints c.args.brush.now) c.args.points.now _ _ c.requires.0 c.add-thick-rows.ensures in
-    let vertices = ap (λ (k : Kind). vertex_count k n) kind ∙ thick_count c.args.course n in
-    let indices = ap (λ (k : Kind). index_count k n) kind in (
-      subst (λ (k : Kind). fewest k ≤ n) (sym kind) (kind_enough Thick c.args.course n c.requires.0),
-      omega (arith, c.next-vertex-base.ensures, drawn.0),
-      omega (arith, fits.indices, drawn.1),
-    )
+pub add-thick-rows-requires : goal.add-thick-rows-requires
+add-thick-rows-requires g c = (c.requires.0, omega (arith, c.requires.1.vertices))
+
+pub overflow-cast-n : goal.overflow-cast-n
+overflow-cast-n g c = omega (arith, c.requires.1.vertices, room_few (mesh_state c.args.out.now))
+
+pub add-cap-requires : goal.add-cap-requires
+add-cap-requires g c =
+    let rule = g.C.ColorRule.colour c.args.rule.now c.args.bounds in
+    let m₁ = mesh_state c.add-thick-rows.new.out in
+    let counted = thick_counted c.args.feathering c.args.width rule c.args.points.now (mesh_state c.args.out.now) m₁ c.requires.0 c.add-thick-rows.ensures in
+    (omega (arith, c.requires.0), omega (arith, c.requires.1.indices))
+
+pub add-bands-requires : goal.add-bands-requires
+add-bands-requires g c =
+    let rule = g.C.ColorRule.colour c.args.rule.now c.args.bounds in
+    let m₁ = mesh_state c.add-thick-rows.new.out in
+    let m₂ = mesh_state c.add-cap.new.self in
+    let counted = thick_counted c.args.feathering c.args.width rule c.args.points.now (mesh_state c.args.out.now) m₁ c.requires.0 c.add-thick-rows.ensures in
+    let same = vertices_kept m₁ m₂ _ _ c.add-cap.ensures in
+    (omega (arith, c.requires.0), omega arith, omega arith, index_room_left m₁ m₂ _ _ c.add-cap.ensures _ (omega (arith, c.requires.1.indices)))
+
+pub add-cap-requires-2 : goal.add-cap-requires-2
+add-cap-requires-2 g c =
+    let rule = g.C.ColorRule.colour c.args.rule.now c.args.bounds in
+    let m₁ = mesh_state c.add-thick-rows.new.out in
+    let m₂ = mesh_state c.add-cap.new.self in
+    let m₃ = mesh_state c.add-bands.new.self in
+    let counted = thick_counted c.args.feathering c.args.width rule c.args.points.now (mesh_state c.args.out.now) m₁ c.requires.0 c.add-thick-rows.ensures in
+    let same = vertices_kept m₁ m₂ _ _ c.add-cap.ensures in
+    let also = vertices_kept m₂ m₃ _ _ c.add-bands.ensures in
+    let so_far = length-bands 4 (length c.args.points.now - 1) in
+    let left = index_room_left m₁ m₂ _ _ c.add-cap.ensures (18 * (length c.args.points.now - 1) + 6) (omega (arith, c.requires.1.indices)) in
+    (omega (arith, c.requires.0), index_room_left m₂ m₃ _ _ c.add-bands.ensures 6 (omega arith))
+
+pub returns : goal.returns
+returns g c =
+    figure_drawn _ _ _ _ _ _ c.next-vertex-base.ensures c.add-thick-rows.ensures
+    (triangles_step _ _ _ _ _ _ _ c.add-cap.ensures (triangles_step _ _ _ _ _ _ _ c.add-bands.ensures c.add-cap-2.ensures refl) refl)

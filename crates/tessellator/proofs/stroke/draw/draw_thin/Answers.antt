@@ -1,25 +1,21 @@
-use Rattle.std.proofs.Common.{◌*◌, ◌≤◌, length, sym, ap, ◌∙◌, subst, arith}
-use Rattle.path.specs.Held.{Held, held}
-use Rattle.path.specs.declared.point.PathPoint.{PathPoint}
-use Rattle.path.proofs.Growing.{few_used}
-use Rattle.tessellator.specs.Kinds.{fewest, vertex_count}
-use Rattle.tessellator.specs.Strokes.{fill_of, kind_of}
-use Rattle.tessellator.specs.declared.kind.Kind.{Kind}
-use Rattle.tessellator.specs.declared.stroke.Style.TheVariants.{Thin}
-use Rattle.tessellator.proofs.Shapes.{fits_as}
-use Rattle.tessellator.proofs.Stroked.{length-swollen, kind_enough, thin_count}
+use Rattle.std.proofs.Common.{length, ap, arith}
+use Rattle.tessellator.specs.State.{mesh_state}
+use Rattle.tessellator.proofs.Growth.{index_room_kept}
+use Rattle.tessellator.proofs.Lined.{room_few, rows_fit, rows_counted}
 use Rattle.tessellator.proofs.stroke.draw.draw_thin.Goals as goal
 
-pub draw-rows-requires : goal.draw-rows-requires
-draw-rows-requires g c =
-    let p = held c.args.path.now in
-    let n = length c.as-slice-points.result.now in
-    let long = ap length (c.as-slice-points.ensures ∙ ap (λ (h : Held PathPoint). h.used) c.swell.ensures) ∙ length-swollen c.args.feathering c.args.width c.fill-fill.result p.used in
-    let few = few_used c.args.path.now in
-    let kind = c.kind-of-kind.ensures in
-    let rows = ap length c.thin-rows.ensures in (
-      omega arith,
-      subst (λ (k : Kind). fewest k ≤ n) (sym kind) (kind_enough Thin c.args.course n (omega (arith, c.requires.0))),
-      ap (λ k. n * k) rows ∙ omega arith ∙ sym (thin_count c.args.course n) ∙ ap (λ (k : Kind). vertex_count k n) (sym kind),
-      fits_as (kind_of Thin c.args.course (length p.used)) _ _ _ _ (ap (kind_of Thin c.args.course) (sym long) ∙ sym kind) (sym long) c.requires.1,
-    )
+pub add-rows-requires : goal.add-rows-requires
+add-rows-requires g c =
+    rows_fit (g.C.ColorRule.colour c.args.rule.now c.args.bounds) c.thin-rows.result 3 c.args.points.now (mesh_state c.args.out.now) (mesh_state c.args.out.now)
+    (ap length c.thin-rows.ensures) c.requires.1.vertices
+
+pub overflow-cast-points : goal.overflow-cast-points
+overflow-cast-points g c = omega (arith, c.requires.1.vertices, room_few (mesh_state c.args.out.now))
+
+pub add-bands-requires : goal.add-bands-requires
+add-bands-requires g c =
+    let m = mesh_state c.args.out.now in
+    let m₁ = mesh_state c.add-rows.new.self in
+    let long = rows_counted (g.C.ColorRule.colour c.args.rule.now c.args.bounds) c.thin-rows.result 3 c.args.points.now m m₁ (ap length c.thin-rows.ensures) c.add-rows.ensures in
+    let kept = index_room_kept m m₁ _ c.add-rows.ensures in
+    (omega (arith, c.requires.0), omega arith, omega arith, omega (arith, c.requires.1.indices))
