@@ -9,14 +9,14 @@ use Rattle.cutting.proofs.cut.count_runs.Goals.{then-fits, else-fits}
 pub loop-k-init : goal.loop-k-init
 loop-k-init c =
     let ts = triples c.args.indices.now in
-    first_counts ts _ (omega (arith, length-triples c.args.indices.now)) c.in-ok-run.ensures
+    first_counts ts _ (omega (arith, length-triples c.args.indices.now)) c.in_ok-run.ensures
 
-pub returns-in-err-own : goal.returns-in-err-own
-returns-in-err-own c =
+pub returns-in_err-own : goal.returns-in_err-own
+returns-in_err-own c =
     let here = c.loop-k in
     let ts = triples c.args.indices.now in
     let h : here.k < length ts = omega (arith, length-triples c.args.indices.now) in
-    let e = refused_here ts here.k here.run here.count h here.invariant _ c.in-err-own.ensures in
+    let e = refused_here ts here.k here.run here.count h here.invariant _ c.in_err-own.ensures in
     search rules
 
 pub loop-k-preserved : goal.loop-k-preserved
@@ -25,8 +25,8 @@ loop-k-preserved c =
     let ts = triples c.args.indices.now in
     let h : here.k < length ts = omega (arith, length-triples c.args.indices.now) in
     elim c.if-fits.branch [
-      | then-fits w ↦ taken_here ts _ _ _ h here.invariant _ _ _ _ c.in-ok-own.ensures c.joined-wider.ensures w.if-fits.ensures w.run-is w.count-is
-      | else-fits w ↦ begun_here ts _ _ _ h here.invariant _ _ _ _ c.in-ok-own.ensures c.joined-wider.ensures w.if-fits.ensures w.run-is w.count-is
+      | then-fits w ↦ taken_here ts _ _ _ h here.invariant _ _ _ _ c.in_ok-own.ensures c.joined-wider.ensures w.if-fits.ensures w.run-is w.count-is
+      | else-fits w ↦ begun_here ts _ _ _ h here.invariant _ _ _ _ c.in_ok-own.ensures c.joined-wider.ensures w.if-fits.ensures w.run-is w.count-is
     ]
 
 pub returns : goal.returns

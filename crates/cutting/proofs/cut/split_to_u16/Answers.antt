@@ -8,13 +8,13 @@ use Rattle.cutting.proofs.cut.split_to_u16.Goals as goal
 pub returns-then-whole : goal.returns-then-whole
 returns-then-whole c =
     let mesh = c.args.mesh.now in
-    let after = c.split-whole.new in
-    let e : left c.split-whole.result after.indices after.parts ≡ cutting (finished_state mesh) c.args.indices.now c.args.parts.now = search rules in
+    let after = c.split_whole.new in
+    let e : left c.split_whole.result after.indices after.parts ≡ cutting (finished_state mesh) c.args.indices.now c.args.parts.now = search rules in
     record { left = e; fewest = fewest _ _ _ _ e (proper mesh); complete = complete _ _ _ _ e (proper mesh); faithful = faithful _ _ _ _ e (proper mesh) }
 
 pub returns-else-whole : goal.returns-else-whole
 returns-else-whole c =
     let mesh = c.args.mesh.now in
-    let after = c.split-runs.new in
-    let e : left c.split-runs.result after.indices after.parts ≡ cutting (finished_state mesh) c.args.indices.now c.args.parts.now = search rules in
+    let after = c.split_runs.new in
+    let e : left c.split_runs.result after.indices after.parts ≡ cutting (finished_state mesh) c.args.indices.now c.args.parts.now = search rules in
     record { left = e; fewest = fewest _ _ _ _ e (proper mesh); complete = complete _ _ _ _ e (proper mesh); faithful = faithful _ _ _ _ e (proper mesh) }

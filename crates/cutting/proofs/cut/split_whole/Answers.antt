@@ -12,4 +12,4 @@ lower-requires c =
 
 pub returns : goal.returns
 returns c =
-    whole_placed _ c.indices-source.result.now _ _ _ _ _ _ c.indices-source.ensures (cc) c.in-ok-check-space.ensures c.lower.ensures
+    whole_placed _ c.indices-source.result.now _ _ _ _ _ _ c.indices-source.ensures (cc) c.in_ok-check_space.ensures c.lower.ensures

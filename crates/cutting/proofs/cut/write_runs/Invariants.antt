@@ -19,4 +19,4 @@ invariant-loop-part l =
     let runs = cut (drop l.first ts) in
     All Narrow (drop l.first ts)
     × Writing (lowered (cut ts)) l.initial.indices (3 * l.first) l.indices (lowered runs)
-    × Writing (parts_from 0 l.«texture-id» (cut ts)) l.initial.parts l.part-index l.parts (parts_from (3 * l.first) l.«texture-id» runs)
+    × Writing (parts_from 0 l.«texture_id» (cut ts)) l.initial.parts l.part-index l.parts (parts_from (3 * l.first) l.«texture_id» runs)

@@ -3,4 +3,4 @@ use Rattle.drawing_file.proofs.solid.stroke_solid.Goals as goal
 
 pub returns : goal.returns
 unfolding solid_outcome
-returns c = c.stroke-open.ensures.outcome
+returns c = c.stroke_open.ensures.outcome

@@ -5,8 +5,8 @@ use Rattle.path.specs.Lines.{open_corners}
 use Rattle.path.proofs.Corners.{corner_counts, turn_length}
 use Rattle.path.proofs.line.open_count.Goals as goal
 
-pub overflow-add-count : goal.overflow-add-count
-overflow-add-count c = omega (arith, (corner_counts c.turn-between-turn.result.corner).1, c.corner-count-count.ensures)
+pub overflow_add-count : goal.overflow_add-count
+overflow_add-count c = omega (arith, (corner_counts c.turn_between-turn.result.corner).1, c.corner_count-count.ensures)
 
 pub loop-next-init : goal.loop-next-init
 loop-next-init c = (refl, omega arith)
@@ -15,12 +15,12 @@ pub loop-next-preserved : goal.loop-next-preserved
 loop-next-preserved c =
     let here = c.loop-next in
     let more = at_drop_more (λ l. length (open_corners here.normal here.normal here.at l)) c.args.rest.now here.next-index (record { x = nan; y = nan }) c.loop-next-test.true in
-    let turn = turn_length here.normal here.normal here.at _ (drop (here.next-index + 1) c.args.rest.now) _ _ c.edge-normal.ensures c.turn-between-turn.ensures in (
-      omega (arith, here.invariant.0, more, turn, c.corner-count-count.ensures),
-      omega (arith, (corner_counts c.turn-between-turn.result.corner).1, c.corner-count-count.ensures),
+    let turn = turn_length here.normal here.normal here.at _ (drop (here.next-index + 1) c.args.rest.now) _ _ c.edge_normal.ensures c.turn_between-turn.ensures in (
+      omega (arith, here.invariant.0, more, turn, c.corner_count-count.ensures),
+      omega (arith, (corner_counts c.turn_between-turn.result.corner).1, c.corner_count-count.ensures),
     )
 
 pub returns : goal.returns
 returns c =
     let end = at_drop_all (λ l. length (open_corners c.loop-next.normal c.loop-next.normal c.loop-next.at l)) _ _ c.loop-next-test.false in
-    rw (← c.edge-normal-normal.ensures) (omega (arith, c.loop-next.invariant.0, end))
+    rw (← c.edge_normal-normal.ensures) (omega (arith, c.loop-next.invariant.0, end))

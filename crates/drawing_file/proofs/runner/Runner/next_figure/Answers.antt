@@ -8,10 +8,10 @@ use Rattle.drawing_file.proofs.runner.Runner.next_figure.Goals as goal
 pub returns : goal.returns
 returns c =
     let s = run_state c.args.self.now in
-    let t = run_state c.run-on.new.self in
+    let t = run_state c.run_on.new.self in
     let short = c.if-self-gt-MAX-BYTES.false in
     record {
-      run = c.run-on.ensures ∙ whole first_figure s short;
-      list = lists.heads s t (told_at c.run-on.result) short c.run-on.ensures;
-      leaves = leavings.leaves s t (told_at c.run-on.result) c.run-on.ensures;
+      run = c.run_on.ensures ∙ whole first_figure s short;
+      list = lists.heads s t (told_at c.run_on.result) short c.run_on.ensures;
+      leaves = leavings.leaves s t (told_at c.run_on.result) c.run_on.ensures;
     }

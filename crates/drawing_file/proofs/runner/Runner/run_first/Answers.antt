@@ -5,13 +5,13 @@ use Rattle.drawing_file.proofs.Turns.{passes}
 use Rattle.drawing_file.proofs.runner.Runner.run_first.Goals as goal
 use Rattle.drawing_file.proofs.runner.Runner.run_first.Goals.{In-ok-drawn, at·add-self, at·ghost-self, at·ghost-self-in-None}
 
-shorter : (c : In-ok-drawn) → length c.in-ok-reading.reading.rest.now < length c.step.new.self.rest.now
+shorter : (c : In-ok-drawn) → length c.in_ok-reading.reading.rest.now < length c.step.new.self.rest.now
 shorter c =
-    passes (run_state c.args.self.now) (run_state c.step.new.self) (item c.in-ok-reading.reading.record) c.in-ok-reading.reading.rest.now _
-    c.in-ok-reading.ensures.read c.in-ok-drawn.ensures
+    passes (run_state c.args.self.now) (run_state c.step.new.self) (item c.in_ok-reading.reading.record) c.in_ok-reading.reading.rest.now _
+    c.in_ok-reading.ensures.read c.in_ok-drawn.ensures
 
-pub overflow-add-self : goal.overflow-add-self
-overflow-add-self c = omega (arith, shorter (at·add-self c).In-ok-drawn, c.step.new.self.counted)
+pub overflow_add-self : goal.overflow_add-self
+overflow_add-self c = omega (arith, shorter (at·add-self c).In-ok-drawn, c.step.new.self.counted)
 
 pub invariant-of-self : goal.invariant-of-self
 invariant-of-self c = (c.step.new.self.few, (omega (arith, shorter (at·ghost-self c).In-ok-drawn, c.step.new.self.counted), tt))

@@ -9,6 +9,6 @@ returns-then-rest-space c = let long = open_bounds c.args.first c.args.second c.
 pub returns-then-rest-space-2 : goal.returns-then-rest-space-2
 returns-then-rest-space-2 c = let long = open_bounds c.args.first c.args.second c.args.rest.now in search rules
 
-pub open-count-requires : goal.open-count-requires
+pub open_count-requires : goal.open_count-requires
 unfolding room
-open-count-requires c = omega arith
+open_count-requires c = omega arith

@@ -7,8 +7,8 @@ use Rattle.tessellator.proofs.mesh.Mesh.add_bands.Goals as goal
 pub loop-i-init : goal.loop-i-init
 loop-i-init c = triangles_none _ _
 
-pub add-band-requires : goal.add-band-requires
-add-band-requires c =
+pub add_band-requires : goal.add_band-requires
+add_band-requires c =
     let i = point_within c.args.self.now _ _ _ c.loop-i.i c.requires.2 (omega arith) in
     let j = point_within c.args.self.now _ _ _ (c.loop-i.i + 1) c.requires.2 (omega arith) in
     let kept = vertices_kept _ _ _ _ c.loop-i.invariant in
@@ -19,7 +19,7 @@ add-band-requires c =
     (c.requires.1, omega arith, omega arith, index_room_left _ _ _ _ c.loop-i.invariant _ (omega (arith, c.requires.3)))
 
 pub loop-i-preserved : goal.loop-i-preserved
-loop-i-preserved c = triangles_step _ _ _ _ _ _ _ c.loop-i.invariant c.add-band.ensures (each_more _ c.loop-i.i)
+loop-i-preserved c = triangles_step _ _ _ _ _ _ _ c.loop-i.invariant c.add_band.ensures (each_more _ c.loop-i.i)
 
 pub returns : goal.returns
 returns c = let e : c.loop-i.i ≡ c.args.points - 1 = omega (arith, c.requires.0) in rw e at c.loop-i.invariant

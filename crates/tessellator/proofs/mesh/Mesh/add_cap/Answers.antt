@@ -2,11 +2,11 @@ use Rattle.std.proofs.Common.{refl, arith}
 use Rattle.tessellator.proofs.Growth.{triangles_step, index_room_left, vertices_kept}
 use Rattle.tessellator.proofs.mesh.Mesh.add_cap.Goals as goal
 
-pub push-triangle-requires-2 : goal.push-triangle-requires-2
-push-triangle-requires-2 c =
-    let kept = vertices_kept _ _ _ _ c.push-triangle.ensures in
+pub push_triangle-requires-2 : goal.push_triangle-requires-2
+push_triangle-requires-2 c =
+    let kept = vertices_kept _ _ _ _ c.push_triangle.ensures in
     let fits = c.requires in
-    (index_room_left _ _ _ _ c.push-triangle.ensures 3 (omega arith), (omega arith, (omega arith, omega arith)))
+    (index_room_left _ _ _ _ c.push_triangle.ensures 3 (omega arith), (omega arith, (omega arith, omega arith)))
 
 pub returns : goal.returns
-returns c = triangles_step _ _ _ _ _ _ _ c.push-triangle.ensures c.push-triangle-2.ensures refl
+returns c = triangles_step _ _ _ _ _ _ _ c.push_triangle.ensures c.push_triangle-2.ensures refl

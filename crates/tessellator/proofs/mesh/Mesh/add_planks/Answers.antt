@@ -6,24 +6,24 @@ use Rattle.tessellator.proofs.mesh.Mesh.add_planks.Goals as goal
 pub loop-i-init : goal.loop-i-init
 loop-i-init c = triangles_none _ _
 
-pub push-triangle-requires : goal.push-triangle-requires
-push-triangle-requires c =
+pub push_triangle-requires : goal.push_triangle-requires
+push_triangle-requires c =
     let so_far = length-each (λ i. plank i (i + 1)) 2 (λ i. refl) c.loop-i.i in
     let kept = vertices_kept _ _ _ _ c.loop-i.invariant in
     let fits = c.requires in
     (index_room_left _ _ _ _ c.loop-i.invariant 3 (omega arith), (omega arith, (omega arith, omega arith)))
 
-pub push-triangle-requires-in-loop-i : goal.push-triangle-requires-in-loop-i
-push-triangle-requires-in-loop-i c =
+pub push_triangle-requires-in-loop-i : goal.push_triangle-requires-in-loop-i
+push_triangle-requires-in-loop-i c =
     let so_far = length-each (λ i. plank i (i + 1)) 2 (λ i. refl) c.loop-i.i in
     let kept = vertices_kept _ _ _ _ c.loop-i.invariant in
-    let kept' = vertices_kept _ _ _ _ c.push-triangle.ensures in
+    let kept' = vertices_kept _ _ _ _ c.push_triangle.ensures in
     let fits = c.requires in
-    (index_room_left _ _ _ _ c.push-triangle.ensures 3 (index_room_left _ _ _ _ c.loop-i.invariant 6 (omega arith)), (omega arith, (omega arith, omega arith)))
+    (index_room_left _ _ _ _ c.push_triangle.ensures 3 (index_room_left _ _ _ _ c.loop-i.invariant 6 (omega arith)), (omega arith, (omega arith, omega arith)))
 
 pub loop-i-preserved : goal.loop-i-preserved
 loop-i-preserved c =
-    triangles_step _ _ _ _ _ _ _ c.loop-i.invariant (triangles_step _ _ _ _ _ _ _ c.push-triangle.ensures c.push-triangle-in-loop-i.ensures refl)
+    triangles_step _ _ _ _ _ _ _ c.loop-i.invariant (triangles_step _ _ _ _ _ _ _ c.push_triangle.ensures c.push_triangle-in-loop-i.ensures refl)
     (each_more _ c.loop-i.i)
 
 pub returns : goal.returns

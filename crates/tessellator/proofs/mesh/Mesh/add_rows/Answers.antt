@@ -8,8 +8,8 @@ use Rattle.tessellator.proofs.mesh.Mesh.add_rows.Goals as goal
 pub loop-point-init : goal.loop-point-init
 loop-point-init g c = vertices_none _
 
-pub add-vertices-at-requires : goal.add-vertices-at-requires
-add-vertices-at-requires g c =
+pub add_vertices_at-requires : goal.add_vertices_at-requires
+add_vertices_at-requires g c =
     let i = c.loop-point.point-index in
     let points = c.args.points.now in
     let fits = one_more_fits _ i _ _ c.loop-point-test.true c.requires in
@@ -19,7 +19,7 @@ add-vertices-at-requires g c =
 
 pub loop-point-preserved : goal.loop-point-preserved
 loop-point-preserved g c =
-    vertices_step _ _ _ _ _ _ c.loop-point.invariant c.add-vertices-at.ensures
+    vertices_step _ _ _ _ _ _ c.loop-point.invariant c.add_vertices_at.ensures
     (joined_next (vertices_at _ _) c.args.points.now c.loop-point.point-index _ c.loop-point-test.true)
 
 pub returns : goal.returns

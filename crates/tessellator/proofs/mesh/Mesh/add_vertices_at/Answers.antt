@@ -7,12 +7,12 @@ use Rattle.tessellator.proofs.mesh.Mesh.add_vertices_at.Goals as goal
 pub loop-row-init : goal.loop-row-init
 loop-row-init g c = vertices_none _
 
-pub add-vertex-requires : goal.add-vertex-requires
-add-vertex-requires g c = vertex_room_left _ _ _ c.loop-row.invariant 1 (simp (length-map, length-take) (omega arith))
+pub add_vertex-requires : goal.add_vertex-requires
+add_vertex-requires g c = vertex_room_left _ _ _ c.loop-row.invariant 1 (simp (length-map, length-take) (omega arith))
 
 pub loop-row-preserved : goal.loop-row-preserved
 loop-row-preserved g c =
-    vertices_step _ _ _ _ _ _ c.loop-row.invariant c.add-vertex.ensures
+    vertices_step _ _ _ _ _ _ c.loop-row.invariant c.add_vertex.ensures
     (simp c.vertex.ensures (map_more _ _ _ _ c.loop-row-test.true))
 
 pub returns : goal.returns

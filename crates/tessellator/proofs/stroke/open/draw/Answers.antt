@@ -6,48 +6,48 @@ use Rattle.tessellator.specs.State.{mesh_state}
 use Rattle.tessellator.specs.Strokes.{LineFits, open_pen, stroke_along, style_of}
 use Rattle.tessellator.proofs.Opened.{length-centred, few_drawn, no_width_drawn, clear_drawn, line_drawn, line_fits}
 use Rattle.tessellator.proofs.stroke.open.draw.Goals as goal
-use Rattle.tessellator.proofs.stroke.open.draw.Goals.{then-as-slice-lt2-via-then-as-slice-lt2, then-as-slice-lt2-via-else-as-slice-lt2+then-stroke}
+use Rattle.tessellator.proofs.stroke.open.draw.Goals.{then-as_slice-lt2-via-then-as_slice-lt2, then-as_slice-lt2-via-else-as_slice-lt2+then-stroke}
 
-pub returns-then-as-slice-lt2 : goal.returns-then-as-slice-lt2
-returns-then-as-slice-lt2 g c =
+pub returns-then-as_slice-lt2 : goal.returns-then-as_slice-lt2
+returns-then-as_slice-lt2 g c =
     let s = c.args.stroke.now in
-    let long = ap length c.as-slice.ensures in
-    elim c.then-as-slice-lt2.branch [
-      | then-as-slice-lt2-via-then-as-slice-lt2 w ↦
-          few_drawn c.args.feathering s.width s.kind (g.C.ColorRule.colour s.color) (g.C.ColorRule.plain s.color) (path_state c.args.path.now) (mesh_state c.args.out.now) (omega (arith, w.if-as-slice-lt2.true))
-      | then-as-slice-lt2-via-else-as-slice-lt2+then-stroke w ↦
-          no_width_drawn c.args.feathering s.width s.kind (g.C.ColorRule.colour s.color) (g.C.ColorRule.plain s.color) (path_state c.args.path.now) (mesh_state c.args.out.now) (omega (arith, w.if-as-slice-lt2.false)) w.if-stroke.true
+    let long = ap length c.as_slice.ensures in
+    elim c.then-as_slice-lt2.branch [
+      | then-as_slice-lt2-via-then-as_slice-lt2 w ↦
+          few_drawn c.args.feathering s.width s.kind (g.C.ColorRule.colour s.color) (g.C.ColorRule.plain s.color) (path_state c.args.path.now) (mesh_state c.args.out.now) (omega (arith, w.if-as_slice-lt2.true))
+      | then-as_slice-lt2-via-else-as_slice-lt2+then-stroke w ↦
+          no_width_drawn c.args.feathering s.width s.kind (g.C.ColorRule.colour s.color) (g.C.ColorRule.plain s.color) (path_state c.args.path.now) (mesh_state c.args.out.now) (omega (arith, w.if-as_slice-lt2.false)) w.if-stroke.true
     ]
 
-pub returns-then-is-clear : goal.returns-then-is-clear
-returns-then-is-clear g c =
+pub returns-then-is_clear : goal.returns-then-is_clear
+returns-then-is_clear g c =
     let s = c.args.stroke.now in
-    let long = ap length c.as-slice.ensures in
+    let long = ap length c.as_slice.ensures in
     clear_drawn c.args.feathering s.width s.kind (g.C.ColorRule.colour s.color) (g.C.ColorRule.plain s.color) (path_state c.args.path.now) (path_state c.shrink.new.path) (mesh_state c.args.out.now)
-    (omega (arith, c.if-as-slice-lt2.false)) c.if-stroke.false (sym c.is-clear.ensures ∙ c.if-is-clear.true) c.shrink.ensures
+    (omega (arith, c.if-as_slice-lt2.false)) c.if-stroke.false (sym c.is_clear.ensures ∙ c.if-is_clear.true) c.shrink.ensures
 
 -- what the line is drawn over: the points in the middle of the stroke
-pub draw-along-requires : goal.draw-along-requires
-draw-along-requires g c =
+pub draw_along-requires : goal.draw_along-requires
+draw_along-requires g c =
     let s = c.args.stroke.now in
-    let middle = c.as-slice-2.ensures ∙ ap (λ (h : Held PathPoint). h.used) c.centre.ensures in
+    let middle = c.as_slice-2.ensures ∙ ap (λ (h : Held PathPoint). h.used) c.centre.ensures in
     let used = (path_state c.args.path.now).used in
-    let long = ap length c.as-slice.ensures in
+    let long = ap length c.as_slice.ensures in
     let as_long = ap length middle ∙ length-centred s.kind s.width used in (
-      omega (arith, c.if-as-slice-lt2.false),
+      omega (arith, c.if-as_slice-lt2.false),
       subst (λ (n : ℕ). LineFits (style_of c.args.feathering s.width) n (mesh_state c.args.out.now)) (sym (ap length middle))
           (line_fits c.args.feathering s.width s.kind (g.C.ColorRule.colour s.color) (g.C.ColorRule.plain s.color) used
-          (omega (arith, c.if-as-slice-lt2.false)) c.if-stroke.false (sym c.is-clear.ensures ∙ c.if-is-clear.false) (mesh_state c.args.out.now) c.requires),
+          (omega (arith, c.if-as_slice-lt2.false)) c.if-stroke.false (sym c.is_clear.ensures ∙ c.if-is_clear.false) (mesh_state c.args.out.now) c.requires),
     )
 
 pub returns : goal.returns
 returns g c =
     let s = c.args.stroke.now in
-    let middle = c.as-slice-2.ensures ∙ ap (λ (h : Held PathPoint). h.used) c.centre.ensures in
+    let middle = c.as_slice-2.ensures ∙ ap (λ (h : Held PathPoint). h.used) c.centre.ensures in
     let used = (path_state c.args.path.now).used in
-    let long = ap length c.as-slice.ensures in
+    let long = ap length c.as_slice.ensures in
     line_drawn c.args.feathering s.width s.kind (g.C.ColorRule.colour s.color) (g.C.ColorRule.plain s.color) used
-    (omega (arith, c.if-as-slice-lt2.false)) c.if-stroke.false (sym c.is-clear.ensures ∙ c.if-is-clear.false)
-    (path_state c.args.path.now) (path_state c.centre.new.path) (mesh_state c.args.out.now) (mesh_state c.draw-along.new.out) c.centre.ensures
-    (c.draw-along.ensures
+    (omega (arith, c.if-as_slice-lt2.false)) c.if-stroke.false (sym c.is_clear.ensures ∙ c.if-is_clear.false)
+    (path_state c.args.path.now) (path_state c.centre.new.path) (mesh_state c.args.out.now) (mesh_state c.draw_along.new.out) c.centre.ensures
+    (c.draw_along.ensures
     ∙ ap (λ (ps : List PathPoint). mesh_after (stroke_along (open_pen g.C.ColorRule.colour g.C.ColorRule.plain c.args.feathering s) ps) (mesh_state c.args.out.now)) middle)

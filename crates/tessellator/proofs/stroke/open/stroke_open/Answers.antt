@@ -16,6 +16,6 @@ returns-in-Some g c =
 pub returns : goal.returns
 returns g c =
     let s = c.args.stroke.now in
-    let k = kept c.args.feathering s.width s.kind (g.C.ColorRule.colour s.color) (g.C.ColorRule.plain s.color) (told (Ok c.in-ok-size.size))
+    let k = kept c.args.feathering s.width s.kind (g.C.ColorRule.colour s.color) (g.C.ColorRule.plain s.color) (told (Ok c.in_ok-size.size))
     (path_state c.args.path.now) (path_state c.draw.new.path) (mesh_state c.args.out.now) (mesh_state c.draw.new.out) (search rules) in
     record { outcome = k.outcome; grows = k.grows; sized = k.sized }
