@@ -1,12 +1,12 @@
 -- What a builder that is accepted adds.
-use Rattle.std.proofs.Common.{◌≡◌, ℕ, ◌≤◌, Bool, true, false, cond, ◌&&◌, ltb, leb, List, [], ◌∷◌, ◌++◌, length, sym, refl, ap, ◌∙◌, subst, arith}
+use Rattle.std.proofs.Common.{◌≡◌, ◌≤◌, Bool, true, false, cond, ◌&&◌, ltb, List, [], ◌∷◌, ◌++◌, length, sym, refl, subst, arith}
 use Rattle.std.proofs.lemmas.Bool.{ltb-false}
 use Rattle.emath.specs.Answers.{Answer, accepted, refused}
 use Rattle.emath.specs.Limits.{is_place, all_places, is_vector}
 use Rattle.emath.specs.declared.plane.Pos2.{Pos2}
 use Rattle.emath.specs.declared.plane.Vec2.{Vec2}
-use Rattle.path.specs.Builders.{Left, Along, done, once, twice, Behind, Extends, appended, point_added, line_added}
-use Rattle.path.specs.Held.{Held, extended, room}
+use Rattle.path.specs.Builders.{Left, Along, done, once, twice, Extends, appended, point_added, line_added}
+use Rattle.path.specs.Held.{Held, extended}
 use Rattle.path.specs.Lines.{point, edge_normal, corner_points, turn_of, open_corners, open_points}
 use Rattle.path.specs.declared.line.Corner.{Corner}
 use Rattle.path.specs.declared.line.Corner.TheVariants.{Mitre, Cut}

@@ -1,5 +1,5 @@
 -- What a path builder answers and leaves.
-use Rattle.std.specs.Prelude.{◌≡◌, ℕ, Bool, cond, ◌&&◌, List, [], ◌∷◌, length, Ok, Err, Result, nat_le, nat_lt}
+use Rattle.std.specs.Prelude.{◌≡◌, ℕ, cond, ◌&&◌, List, [], ◌∷◌, length, Ok, Err, Result, nat_le, nat_lt}
 use Rattle.emath.specs.Answers as Answers
 use Rattle.emath.specs.Answers.{Answer}
 use Rattle.emath.specs.Limits.{is_place, all_places, is_vector}

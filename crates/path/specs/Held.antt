@@ -1,5 +1,5 @@
 -- A list in lent memory: what is in use, and the rest of the memory as it stands.
-use Rattle.std.specs.Prelude.{ℕ, ◌-◌, min, List, [], ◌∷◌, ◌++◌, length, take, drop}
+use Rattle.std.specs.Prelude.{ℕ, ◌-◌, min, List, [], ◌++◌, length, take, drop}
 use Rattle.path.specs.declared.path.Path.{Path}
 use Rattle.path.specs.declared.point.PathPoint.{PathPoint}
 

@@ -17,8 +17,8 @@ impl<'a> Mesh<'a> {
 
     /// The corners are counted from the vertex `base` on.
     pub(crate) fn push_triangle(&mut self, base: u32, a: u32, b: u32, c: u32)
-        requires bound { 3 ≤ index_room (mesh_state self.old) }
-        requires a_in_bounds { (base + a < length (mesh_state self.old).vertices) × ((base + b < length (mesh_state self.old).vertices) × (base + c < length (mesh_state self.old).vertices)) }
+        requires space { 3 ≤ index_room (mesh_state self.old) }
+        requires named { (base + a < length (mesh_state self.old).vertices) × ((base + b < length (mesh_state self.old).vertices) × (base + c < length (mesh_state self.old).vertices)) }
         ensures { mesh_state self.new ≡ with_triangles base (mesh_state self.old) (tri a b c ∷ []) }
     {
         let at = self.index_count;

@@ -13,7 +13,7 @@ use path::point::PathPoint;
 impl Row {
     /// The row's vertex at a point. A rule is asked at the vertex's own place.
     fn vertex<C: ColorRule>(self, point: PathPoint, rule: &C, bounds: Rect) -> Vertex
-        ensures { result ≡ vertex_of (colour rule.now bounds) point self }
+        ensures { result ≡ vertex_of (C.colour rule.now bounds) point self }
     {
         let pos = point.place(self.side);
         match self.paint {
@@ -36,7 +36,7 @@ impl<'a> Mesh<'a> {
         bounds: Rect,
     )
         requires { length rows.now ≤ vertex_room (mesh_state self.old) }
-        ensures { mesh_state self.new ≡ with_vertices (mesh_state self.old) (vertices_at (colour rule.now bounds) rows.now point) }
+        ensures { mesh_state self.new ≡ with_vertices (mesh_state self.old) (vertices_at (C.colour rule.now bounds) rows.now point) }
     {
         for row in rows {
             self.add_vertex(row.vertex(point, rule, bounds));
@@ -52,7 +52,7 @@ impl<'a> Mesh<'a> {
         bounds: Rect,
     )
         requires { length points.now * length rows.now ≤ vertex_room (mesh_state self.old) }
-        ensures { mesh_state self.new ≡ with_vertices (mesh_state self.old) (row_vertices (colour rule.now bounds) rows.now points.now) }
+        ensures { mesh_state self.new ≡ with_vertices (mesh_state self.old) (row_vertices (C.colour rule.now bounds) rows.now points.now) }
     {
         for point in points {
             self.add_vertices_at(*point, rows, rule, bounds);

@@ -8,10 +8,10 @@ use super::Mesh;
 impl<'a> Mesh<'a> {
     /// The triangles between all rows of the points i and j.
     fn add_band(&mut self, base: u32, rows: u32, i: u32, j: u32)
-        requires le_rows { 1 ≤ rows }
-        requires rows_in_bounds { base + rows * i + rows ≤ length (mesh_state self.old).vertices }
-        requires rows_in_bounds_2 { base + rows * j + rows ≤ length (mesh_state self.old).vertices }
-        requires rows_bound { 6 * (rows - 1) ≤ index_room (mesh_state self.old) }
+        requires some_rows { 1 ≤ rows }
+        requires first_point { base + rows * i + rows ≤ length (mesh_state self.old).vertices }
+        requires second_point { base + rows * j + rows ≤ length (mesh_state self.old).vertices }
+        requires space { 6 * (rows - 1) ≤ index_room (mesh_state self.old) }
         ensures { mesh_state self.new ≡ with_triangles base (mesh_state self.old) (band rows i j) }
     {
         let from = rows * i;
@@ -24,10 +24,10 @@ impl<'a> Mesh<'a> {
 
     /// From each of the first points to the next.
     pub(crate) fn add_bands(&mut self, base: u32, rows: u32, points: u32)
-        requires le_points { 1 ≤ points }
-        requires le_rows { 1 ≤ rows }
-        requires points_in_bounds { base + rows * points ≤ length (mesh_state self.old).vertices }
-        requires rows_bound { (points - 1) * (6 * (rows - 1)) ≤ index_room (mesh_state self.old) }
+        requires some_points { 1 ≤ points }
+        requires some_rows { 1 ≤ rows }
+        requires vertices { base + rows * points ≤ length (mesh_state self.old).vertices }
+        requires space { (points - 1) * (6 * (rows - 1)) ≤ index_room (mesh_state self.old) }
         ensures { mesh_state self.new ≡ with_triangles base (mesh_state self.old) (bands rows (points - 1)) }
     {
         for i in 0..points - 1 {
@@ -37,8 +37,8 @@ impl<'a> Mesh<'a> {
 
     /// The end of a thick line at the point i.
     pub(crate) fn add_cap(&mut self, base: u32, i: u32)
-        requires i_in_bounds { base + 4 * i + 4 ≤ length (mesh_state self.old).vertices }
-        requires bound { 6 ≤ index_room (mesh_state self.old) }
+        requires vertices { base + 4 * i + 4 ≤ length (mesh_state self.old).vertices }
+        requires space { 6 ≤ index_room (mesh_state self.old) }
         ensures { mesh_state self.new ≡ with_triangles base (mesh_state self.old) (cap i) }
     {
         let from = 4 * i;
@@ -48,9 +48,9 @@ impl<'a> Mesh<'a> {
 
     /// The triangles of a hard line, from each of the first points to the next.
     pub(crate) fn add_planks(&mut self, base: u32, points: u32)
-        requires le_points { 1 ≤ points }
-        requires points_in_bounds { base + 2 * points ≤ length (mesh_state self.old).vertices }
-        requires points_bound { 6 * (points - 1) ≤ index_room (mesh_state self.old) }
+        requires some_points { 1 ≤ points }
+        requires vertices { base + 2 * points ≤ length (mesh_state self.old).vertices }
+        requires space { 6 * (points - 1) ≤ index_room (mesh_state self.old) }
         ensures { mesh_state self.new ≡ with_triangles base (mesh_state self.old) (planks points) }
     {
         for i in 0..points - 1 {

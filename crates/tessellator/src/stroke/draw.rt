@@ -15,7 +15,7 @@ use path::point::PathPoint;
 
 /// A box at which the rule answers as at the stroke's, which is worked out only for a rule that reads it.
 fn box_for<C: ColorRule>(points: &[PathPoint], feathering: f32, width: f32, rule: &C) -> Rect
-    ensures { colour rule.now result ≡ colour rule.now (stroke_box feathering width points.now) }
+    ensures { C.colour rule.now result ≡ C.colour rule.now (stroke_box feathering width points.now) }
 {
     if C::consults_box() {
         Rect::from_points(points).expand(width / 2.0 + feathering)
@@ -33,9 +33,9 @@ fn draw_hard<C: ColorRule>(
     bounds: Rect,
     out: &mut Mesh,
 )
-    requires in_bounds { 2 ≤ length points.now }
-    requires line_fits { strokes.LineFits Hard (length points.now) (mesh_state out.old) }
-    ensures { mesh_state out.new ≡ mesh_after (strokes.line_in Hard feathering width (colour rule.now bounds) points.now) (mesh_state out.old) }
+    requires enough { 2 ≤ length points.now }
+    requires fits { strokes.LineFits Hard (length points.now) (mesh_state out.old) }
+    ensures { mesh_state out.new ≡ mesh_after (strokes.line_in Hard feathering width (C.colour rule.now bounds) points.now) (mesh_state out.old) }
 {
     let base = out.next_vertex();
     out.add_rows(points, &rows::hard_rows(width), rule, bounds);
@@ -51,9 +51,9 @@ fn draw_thin<C: ColorRule>(
     bounds: Rect,
     out: &mut Mesh,
 )
-    requires in_bounds { 2 ≤ length points.now }
-    requires line_fits { strokes.LineFits Thin (length points.now) (mesh_state out.old) }
-    ensures { mesh_state out.new ≡ mesh_after (strokes.line_in Thin feathering width (colour rule.now bounds) points.now) (mesh_state out.old) }
+    requires enough { 2 ≤ length points.now }
+    requires fits { strokes.LineFits Thin (length points.now) (mesh_state out.old) }
+    ensures { mesh_state out.new ≡ mesh_after (strokes.line_in Thin feathering width (C.colour rule.now bounds) points.now) (mesh_state out.old) }
 {
     let base = out.next_vertex();
     out.add_rows(
@@ -74,9 +74,9 @@ fn add_thick_rows<C: ColorRule>(
     bounds: Rect,
     out: &mut Mesh,
 )
-    requires in_bounds { 2 ≤ length points.now }
-    requires points_len_bound { length points.now * 4 ≤ vertex_room (mesh_state out.old) }
-    ensures { mesh_state out.new ≡ with_vertices (mesh_state out.old) (strokes.thick_line feathering width (colour rule.now bounds) points.now) }
+    requires enough { 2 ≤ length points.now }
+    requires space { length points.now * 4 ≤ vertex_room (mesh_state out.old) }
+    ensures { mesh_state out.new ≡ with_vertices (mesh_state out.old) (strokes.thick_line feathering width (C.colour rule.now bounds) points.now) }
 {
     let last = points.len() - 1;
     out.add_rows(
@@ -108,9 +108,9 @@ fn draw_thick<C: ColorRule>(
     bounds: Rect,
     out: &mut Mesh,
 )
-    requires in_bounds { 2 ≤ length points.now }
-    requires line_fits { strokes.LineFits Thick (length points.now) (mesh_state out.old) }
-    ensures { mesh_state out.new ≡ mesh_after (strokes.line_in Thick feathering width (colour rule.now bounds) points.now) (mesh_state out.old) }
+    requires enough { 2 ≤ length points.now }
+    requires fits { strokes.LineFits Thick (length points.now) (mesh_state out.old) }
+    ensures { mesh_state out.new ≡ mesh_after (strokes.line_in Thick feathering width (C.colour rule.now bounds) points.now) (mesh_state out.old) }
 {
     let base = out.next_vertex();
     add_thick_rows(points, feathering, width, rule, bounds, out);
@@ -127,9 +127,9 @@ pub(crate) fn draw_along<C: ColorRule>(
     stroke: &PathStroke<C>,
     out: &mut Mesh,
 )
-    requires in_bounds { 2 ≤ length points.now }
-    requires line_fits { strokes.LineFits (strokes.style_of feathering stroke.now.width) (length points.now) (mesh_state out.old) }
-    ensures { mesh_state out.new ≡ mesh_after (strokes.stroke_along (strokes.open_pen colour plain feathering stroke.now) points.now) (mesh_state out.old) }
+    requires enough { 2 ≤ length points.now }
+    requires fits { strokes.LineFits (strokes.style_of feathering stroke.now.width) (length points.now) (mesh_state out.old) }
+    ensures { mesh_state out.new ≡ mesh_after (strokes.stroke_along (strokes.open_pen C.colour C.plain feathering stroke.now) points.now) (mesh_state out.old) }
 {
     let width = stroke.width;
     let rule = &stroke.color;

@@ -19,7 +19,7 @@ use path::point::{PathPoint, Side};
 impl<C: ColorRule> PathStroke<C> {
     /// Whether the stroke is transparent everywhere.
     fn is_clear(&self) -> bool
-        ensures { result ≡ strokes.is_clear (plain self.now.color) }
+        ensures { result ≡ strokes.is_clear (C.plain self.now.color) }
     {
         match self.color.plain_color() {
             Some(color) => color.is_transparent(),
@@ -52,8 +52,8 @@ fn shrink(path: &mut Path, kind: StrokeKind, width: f32)
 
 /// What a line of so many points appends.
 fn line_size(style: Style, points: usize) -> Appended
-    requires le_points { 2 ≤ points }
-    requires points_bound { points ≤ 1048576 }
+    requires enough { 2 ≤ points }
+    requires few { points ≤ 1048576 }
     ensures { result ≡ record { vertices = rows style * points; indices = strokes.line_indices style points } }
 {
     match style {
@@ -75,7 +75,7 @@ fn line_size(style: Style, points: usize) -> Appended
 /// Fewer than two points, no width and no colour append nothing.
 fn size_of<C: ColorRule>(points: &[PathPoint], feathering: f32, stroke: &PathStroke<C>) -> Appended
     requires { length points.now ≤ 1048576 }
-    ensures { result ≡ size_of (strokes.stroke_figure (strokes.open_pen colour plain feathering stroke.now) points.now) }
+    ensures { result ≡ size_of (strokes.stroke_figure (strokes.open_pen C.colour C.plain feathering stroke.now) points.now) }
 {
     if points.len() < 2 || stroke.width == 0.0 || stroke.is_clear() {
         return Appended {
@@ -88,8 +88,8 @@ fn size_of<C: ColorRule>(points: &[PathPoint], feathering: f32, stroke: &PathStr
 
 /// Moves the points, and appends the line's vertices and triangles.
 fn draw<C: ColorRule>(path: &mut Path, feathering: f32, stroke: &PathStroke<C>, out: &mut Mesh)
-    requires { Fits (strokes.stroke_figure (strokes.open_pen colour plain feathering stroke.now) (path_state path.old).used) (mesh_state out.old) }
-    ensures { Drawn (strokes.stroke_figure (strokes.open_pen colour plain feathering stroke.now) (path_state path.old).used) (path_state path.old) (mesh_state out.old) (path_state path.new) (mesh_state out.new) }
+    requires { Fits (strokes.stroke_figure (strokes.open_pen C.colour C.plain feathering stroke.now) (path_state path.old).used) (mesh_state out.old) }
+    ensures { Drawn (strokes.stroke_figure (strokes.open_pen C.colour C.plain feathering stroke.now) (path_state path.old).used) (path_state path.old) (mesh_state out.old) (path_state path.new) (mesh_state out.new) }
 {
     if path.as_slice().len() < 2 || stroke.width == 0.0 {
         return;
@@ -108,7 +108,7 @@ pub fn size_of_stroke_open<C: ColorRule>(
     feathering: f32,
     stroke: &PathStroke<C>,
 ) -> Result<Appended, FigureFault>
-    ensures { told result ≡ strokes.stroke_sizing (strokes.open_pen colour plain feathering stroke.now) (path_state path.now) }
+    ensures { told result ≡ strokes.stroke_sizing (strokes.open_pen C.colour C.plain feathering stroke.now) (path_state path.now) }
 {
     let points = path.as_slice();
     if !is_distance(stroke.width) || !is_distance(feathering) || !all_places(points) {
@@ -124,9 +124,9 @@ pub fn stroke_open<C: ColorRule>(
     stroke: &PathStroke<C>,
     out: &mut Mesh,
 ) -> Result<Appended, FigureFault>
-    ensures outcome { after result path.new out.new ≡ strokes.stroke_outcome (strokes.open_pen colour plain feathering stroke.now) (path_state path.old) (mesh_state out.old) }
+    ensures outcome { after result path.new out.new ≡ strokes.stroke_outcome (strokes.open_pen C.colour C.plain feathering stroke.now) (path_state path.old) (mesh_state out.old) }
     ensures grows { Grows (told result) (path_state path.old) (mesh_state out.old) (path_state path.new) (mesh_state out.new) }
-    ensures sized { Sized (told result) (strokes.stroke_sizing (strokes.open_pen colour plain feathering stroke.now) (path_state path.old)) (mesh_state out.old) }
+    ensures sized { Sized (told result) (strokes.stroke_sizing (strokes.open_pen C.colour C.plain feathering stroke.now) (path_state path.old)) (mesh_state out.old) }
 {
     let size = size_of_stroke_open(path, feathering, stroke)?;
     if let Some(fault) = out.refusal(size) {

@@ -7,7 +7,7 @@ use Rattle.drawing_file.proofs.record.next_record.Goals as goal
 
 pub returns-in_err-record_of : goal.returns-in_err-record_of
 returns-in_err-record_of c =
-    let p = err_from_is_err_and c.from-residual.result c.from-residual.ensures.1 in
+    let p = err_from_is_err_and c.from_residual.result c.from_residual.ensures.1 in
     rw (p.1, p.2)
     (record {
       read = refused (get_or c.args.bytes.now 0 0) _ _ _ _ c.if-body-n.false c.split_at.ensures.front c.in_err-record_of.ensures

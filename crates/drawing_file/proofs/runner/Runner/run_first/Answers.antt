@@ -13,8 +13,8 @@ shorter c =
 pub overflow_add-self : goal.overflow_add-self
 overflow_add-self c = omega (arith, shorter (at·add-self c).In-ok-drawn, c.step.new.self.counted)
 
-pub invariant-of-self : goal.invariant-of-self
-invariant-of-self c = (c.step.new.self.few, (omega (arith, shorter (at·ghost-self c).In-ok-drawn, c.step.new.self.counted), tt))
+pub invariant_of-self : goal.invariant_of-self
+invariant_of-self c = (c.step.new.self.few, (omega (arith, shorter (at·ghost-self c).In-ok-drawn, c.step.new.self.counted), tt))
 
-pub invariant-of-self-in-None : goal.invariant-of-self-in-None
-invariant-of-self-in-None c = (c.step.new.self.few, (omega (arith, shorter (at·ghost-self-in-None c).In-ok-drawn, c.step.new.self.counted), tt))
+pub invariant_of-self-in-None : goal.invariant_of-self-in-None
+invariant_of-self-in-None c = (c.step.new.self.few, (omega (arith, shorter (at·ghost-self-in-None c).In-ok-drawn, c.step.new.self.counted), tt))

@@ -19,7 +19,7 @@ pub returns-in_err-reserve_open : goal.returns-in_err-reserve_open
 returns-in_err-reserve_open c =
     let allowed : all_places c.args.places.now ≡ true = sym (ap all_places (map-id c.args.places.now)) ∙ sym c.all_places.ensures ∙ c.if-not-all_places.false in
     let all = in_parts c.args.places.now (record { x = nan; y = nan }) (omega arith) in
-    let p = err_from_is_err_and c.from-residual.result c.from-residual.ensures.1 in
+    let p = err_from_is_err_and c.from_residual.result c.from_residual.ensures.1 in
     let none = no_space c.args.places.now (path_state c.args.self.now) _ _ allowed c.if-places-lt2.false (ap length all) c.in_err-reserve_open.ensures in
     rw (p.1, p.2) (record { outcome = none; extends = refl })
 

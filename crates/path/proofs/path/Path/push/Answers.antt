@@ -5,11 +5,11 @@ use Rattle.path.proofs.path.Path.push.Goals as goal
 pub bounds-self-self : goal.bounds-self-self
 bounds-self-self c = let p = c.args.self.now in omega (arith, room_fits p.len 1 p.points.now p.fit p.few c.requires)
 
-pub invariant-of-self : goal.invariant-of-self
-invariant-of-self c =
+pub invariant_of-self : goal.invariant_of-self
+invariant_of-self c =
     let p = c.args.self.now in
     let room = room_fits p.len 1 p.points.now p.fit p.few c.requires in
-    (simp length-set (omega arith), (omega arith, tt))
+    record { fit = simp length-set (omega arith); few = omega arith }
 
 pub returns : goal.returns
 returns c =

@@ -12,7 +12,7 @@ push_triangle-requires c =
     let so_far = length-each (cell c.args.rows c.args.i c.args.j) 2 (λ r. refl) c.loop-r.r in
     let kept = vertices_kept _ _ _ _ c.loop-r.invariant in
     let fits = c.requires in
-    (index_room_left _ _ _ _ c.loop-r.invariant 3 (omega arith), (omega arith, (omega arith, omega arith)))
+    record { space = index_room_left _ _ _ _ c.loop-r.invariant 3 (omega arith); named = (omega arith, (omega arith, omega arith)) }
 
 pub push_triangle-requires-in-loop-r : goal.push_triangle-requires-in-loop-r
 push_triangle-requires-in-loop-r c =
@@ -20,7 +20,7 @@ push_triangle-requires-in-loop-r c =
     let kept = vertices_kept _ _ _ _ c.loop-r.invariant in
     let kept' = vertices_kept _ _ _ _ c.push_triangle.ensures in
     let fits = c.requires in
-    (index_room_left _ _ _ _ c.push_triangle.ensures 3 (index_room_left _ _ _ _ c.loop-r.invariant 6 (omega arith)), (omega arith, (omega arith, omega arith)))
+    record { space = index_room_left _ _ _ _ c.push_triangle.ensures 3 (index_room_left _ _ _ _ c.loop-r.invariant 6 (omega arith)); named = (omega arith, (omega arith, omega arith)) }
 
 pub loop-r-preserved : goal.loop-r-preserved
 loop-r-preserved c =

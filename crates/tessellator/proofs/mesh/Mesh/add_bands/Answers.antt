@@ -9,17 +9,17 @@ loop-i-init c = triangles_none _ _
 
 pub add_band-requires : goal.add_band-requires
 add_band-requires c =
-    let i = point_within c.args.self.now _ _ _ c.loop-i.i c.requires.2 (omega arith) in
-    let j = point_within c.args.self.now _ _ _ (c.loop-i.i + 1) c.requires.2 (omega arith) in
+    let i = point_within c.args.self.now _ _ _ c.loop-i.i c.requires.vertices (omega arith) in
+    let j = point_within c.args.self.now _ _ _ (c.loop-i.i + 1) c.requires.vertices (omega arith) in
     let kept = vertices_kept _ _ _ _ c.loop-i.invariant in
     let so_far = length-bands c.args.rows c.loop-i.i in
     let one_more : suc c.loop-i.i ≤ c.args.points - 1 = omega arith in
     let more = mul-le-mul_right (6 * (c.args.rows - 1)) one_more in
     let split = suc-mul c.loop-i.i (6 * (c.args.rows - 1)) in
-    (c.requires.1, omega arith, omega arith, index_room_left _ _ _ _ c.loop-i.invariant _ (omega (arith, c.requires.3)))
+    record { some_rows = c.requires.some_rows; first_point = omega arith; second_point = omega arith; space = index_room_left _ _ _ _ c.loop-i.invariant _ (omega (arith, c.requires.space)) }
 
 pub loop-i-preserved : goal.loop-i-preserved
 loop-i-preserved c = triangles_step _ _ _ _ _ _ _ c.loop-i.invariant c.add_band.ensures (each_more _ c.loop-i.i)
 
 pub returns : goal.returns
-returns c = let e : c.loop-i.i ≡ c.args.points - 1 = omega (arith, c.requires.0) in rw e at c.loop-i.invariant
+returns c = let e : c.loop-i.i ≡ c.args.points - 1 = omega (arith, c.requires.some_points) in rw e at c.loop-i.invariant

@@ -11,7 +11,7 @@ push_triangle-requires c =
     let so_far = length-each (λ i. plank i (i + 1)) 2 (λ i. refl) c.loop-i.i in
     let kept = vertices_kept _ _ _ _ c.loop-i.invariant in
     let fits = c.requires in
-    (index_room_left _ _ _ _ c.loop-i.invariant 3 (omega arith), (omega arith, (omega arith, omega arith)))
+    record { space = index_room_left _ _ _ _ c.loop-i.invariant 3 (omega arith); named = (omega arith, (omega arith, omega arith)) }
 
 pub push_triangle-requires-in-loop-i : goal.push_triangle-requires-in-loop-i
 push_triangle-requires-in-loop-i c =
@@ -19,7 +19,7 @@ push_triangle-requires-in-loop-i c =
     let kept = vertices_kept _ _ _ _ c.loop-i.invariant in
     let kept' = vertices_kept _ _ _ _ c.push_triangle.ensures in
     let fits = c.requires in
-    (index_room_left _ _ _ _ c.push_triangle.ensures 3 (index_room_left _ _ _ _ c.loop-i.invariant 6 (omega arith)), (omega arith, (omega arith, omega arith)))
+    record { space = index_room_left _ _ _ _ c.push_triangle.ensures 3 (index_room_left _ _ _ _ c.loop-i.invariant 6 (omega arith)); named = (omega arith, (omega arith, omega arith)) }
 
 pub loop-i-preserved : goal.loop-i-preserved
 loop-i-preserved c =
@@ -27,4 +27,4 @@ loop-i-preserved c =
     (each_more _ c.loop-i.i)
 
 pub returns : goal.returns
-returns c = let e : c.loop-i.i ≡ c.args.points - 1 = omega (arith, c.requires.0) in rw e at c.loop-i.invariant
+returns c = let e : c.loop-i.i ≡ c.args.points - 1 = omega (arith, c.requires.some_points) in rw e at c.loop-i.invariant

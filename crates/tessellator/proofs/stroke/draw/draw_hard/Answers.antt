@@ -7,10 +7,10 @@ use Rattle.tessellator.proofs.stroke.draw.draw_hard.Goals as goal
 pub add_rows-requires : goal.add_rows-requires
 add_rows-requires g c =
     rows_fit (g.C.ColorRule.colour c.args.rule.now c.args.bounds) c.hard_rows.result 2 c.args.points.now (mesh_state c.args.out.now) (mesh_state c.args.out.now)
-    (ap length c.hard_rows.ensures) c.requires.1.vertices
+    (ap length c.hard_rows.ensures) c.requires.fits.vertices
 
 pub overflow_cast-points : goal.overflow_cast-points
-overflow_cast-points g c = omega (arith, c.requires.1.vertices, room_few (mesh_state c.args.out.now))
+overflow_cast-points g c = omega (arith, c.requires.fits.vertices, room_few (mesh_state c.args.out.now))
 
 pub add_planks-requires : goal.add_planks-requires
 add_planks-requires g c =
@@ -18,4 +18,4 @@ add_planks-requires g c =
     let m₁ = mesh_state c.add_rows.new.self in
     let long = rows_counted (g.C.ColorRule.colour c.args.rule.now c.args.bounds) c.hard_rows.result 2 c.args.points.now m m₁ (ap length c.hard_rows.ensures) c.add_rows.ensures in
     let kept = index_room_kept m m₁ _ c.add_rows.ensures in
-    (omega (arith, c.requires.0), omega arith, omega (arith, c.requires.1.indices))
+    record { some_points = omega (arith, c.requires.enough); vertices = omega arith; space = omega (arith, c.requires.fits.indices) }

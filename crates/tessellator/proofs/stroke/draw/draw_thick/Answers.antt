@@ -5,26 +5,26 @@ use Rattle.tessellator.proofs.Lined.{room_few, thick_counted}
 use Rattle.tessellator.proofs.stroke.draw.draw_thick.Goals as goal
 
 pub add_thick_rows-requires : goal.add_thick_rows-requires
-add_thick_rows-requires g c = (c.requires.0, omega (arith, c.requires.1.vertices))
+add_thick_rows-requires g c = record { enough = c.requires.enough; space = omega (arith, c.requires.fits.vertices) }
 
 pub overflow_cast-n : goal.overflow_cast-n
-overflow_cast-n g c = omega (arith, c.requires.1.vertices, room_few (mesh_state c.args.out.now))
+overflow_cast-n g c = omega (arith, c.requires.fits.vertices, room_few (mesh_state c.args.out.now))
 
 pub add_cap-requires : goal.add_cap-requires
 add_cap-requires g c =
     let rule = g.C.ColorRule.colour c.args.rule.now c.args.bounds in
     let m₁ = mesh_state c.add_thick_rows.new.out in
-    let counted = thick_counted c.args.feathering c.args.width rule c.args.points.now (mesh_state c.args.out.now) m₁ c.requires.0 c.add_thick_rows.ensures in
-    (omega (arith, c.requires.0), omega (arith, c.requires.1.indices))
+    let counted = thick_counted c.args.feathering c.args.width rule c.args.points.now (mesh_state c.args.out.now) m₁ c.requires.enough c.add_thick_rows.ensures in
+    record { vertices = omega (arith, c.requires.enough); space = omega (arith, c.requires.fits.indices) }
 
 pub add_bands-requires : goal.add_bands-requires
 add_bands-requires g c =
     let rule = g.C.ColorRule.colour c.args.rule.now c.args.bounds in
     let m₁ = mesh_state c.add_thick_rows.new.out in
     let m₂ = mesh_state c.add_cap.new.self in
-    let counted = thick_counted c.args.feathering c.args.width rule c.args.points.now (mesh_state c.args.out.now) m₁ c.requires.0 c.add_thick_rows.ensures in
+    let counted = thick_counted c.args.feathering c.args.width rule c.args.points.now (mesh_state c.args.out.now) m₁ c.requires.enough c.add_thick_rows.ensures in
     let same = vertices_kept m₁ m₂ _ _ c.add_cap.ensures in
-    (omega (arith, c.requires.0), omega arith, omega arith, index_room_left m₁ m₂ _ _ c.add_cap.ensures _ (omega (arith, c.requires.1.indices)))
+    record { some_points = omega (arith, c.requires.enough); some_rows = omega arith; vertices = omega arith; space = index_room_left m₁ m₂ _ _ c.add_cap.ensures _ (omega (arith, c.requires.fits.indices)) }
 
 pub add_cap-requires-2 : goal.add_cap-requires-2
 add_cap-requires-2 g c =
@@ -32,12 +32,12 @@ add_cap-requires-2 g c =
     let m₁ = mesh_state c.add_thick_rows.new.out in
     let m₂ = mesh_state c.add_cap.new.self in
     let m₃ = mesh_state c.add_bands.new.self in
-    let counted = thick_counted c.args.feathering c.args.width rule c.args.points.now (mesh_state c.args.out.now) m₁ c.requires.0 c.add_thick_rows.ensures in
+    let counted = thick_counted c.args.feathering c.args.width rule c.args.points.now (mesh_state c.args.out.now) m₁ c.requires.enough c.add_thick_rows.ensures in
     let same = vertices_kept m₁ m₂ _ _ c.add_cap.ensures in
     let also = vertices_kept m₂ m₃ _ _ c.add_bands.ensures in
     let so_far = length-bands 4 (length c.args.points.now - 1) in
-    let left = index_room_left m₁ m₂ _ _ c.add_cap.ensures (18 * (length c.args.points.now - 1) + 6) (omega (arith, c.requires.1.indices)) in
-    (omega (arith, c.requires.0), index_room_left m₂ m₃ _ _ c.add_bands.ensures 6 (omega arith))
+    let left = index_room_left m₁ m₂ _ _ c.add_cap.ensures (18 * (length c.args.points.now - 1) + 6) (omega (arith, c.requires.fits.indices)) in
+    record { vertices = omega (arith, c.requires.enough); space = index_room_left m₂ m₃ _ _ c.add_bands.ensures 6 (omega arith) }
 
 pub returns : goal.returns
 returns g c =
