@@ -1,11 +1,11 @@
 -- Open lines: how much they append, and that they fit where their figure does.
-use Rattle.std.proofs.Common.{◌≡◌, ℕ, suc, ◌+◌, ◌-◌, ◌*◌, ◌≤◌, min, List, [], ◌∷◌, ◌++◌, length, take, drop, sym, refl, ap, ◌∙◌, append_assoc, mul_comm, arith, length-append, length-drop, length-take}
+use Rattle.std.proofs.Common.{◌≡◌, ℕ, ◌+◌, ◌-◌, ◌*◌, ◌≤◌, List, ◌++◌, length, take, drop, sym, refl, ap, ◌∙◌, append_assoc, mul_comm, arith, length-append, length-drop, length-take}
 use lib.Ieee.{Float, neg}
 use Rattle.std.proofs.lemmas.List.{take_all}
 use Rattle.emath.specs.declared.plane.Pos2.{Pos2}
 use Rattle.path.specs.declared.point.PathPoint.{PathPoint}
 use Rattle.ecolor.specs.Colors.{transparent}
-use Rattle.tessellator.specs.Kinds.{line, band, bands, cap, plank, planks, triangles, rows}
+use Rattle.tessellator.specs.Kinds.{line, band, bands, cap, plank, triangles, rows}
 use Rattle.tessellator.specs.Outcome.{Fits, size_of, triangles_of}
 use Rattle.tessellator.specs.Rows.{row_vertices}
 use Rattle.tessellator.specs.State.{MeshState, with_vertices, vertex_room, index_room}

@@ -21,4 +21,4 @@ returns c =
     let parts = in_parts b (omega (arith, ltb-false)) in
     let first : First = record { item = item c.in_ok-record_of.field-0; after = c.split_at.result.1.now } in
     let read : Ok first ≡ first_of b = search rules in
-    record { read = read; front = subst (Fronts b) (sym read) (fronts b (c.type-inv.bytes 2).fits) }
+    record { read = read; front = subst (Fronts b) (sym read) (fronts b (c.type_inv.bytes 2).fits) }

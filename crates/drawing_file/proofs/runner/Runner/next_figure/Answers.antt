@@ -9,7 +9,7 @@ pub returns : goal.returns
 returns c =
     let s = run_state c.args.self.now in
     let t = run_state c.run_on.new.self in
-    let short = c.if-self-gt-MAX-BYTES.false in
+    let short = c.if-self-gt-MAX_BYTES.false in
     record {
       run = c.run_on.ensures ∙ whole first_figure s short;
       list = lists.heads s t (told_at c.run_on.result) short c.run_on.ensures;

@@ -8,7 +8,7 @@ loop-self-smaller c = fewer (run_state c.loop-self.self) (run_state c.run_first.
 
 pub loop-self-preserved : goal.loop-self-preserved
 loop-self-preserved c =
-    quiet first_figure (run_state c.loop-self.self) (run_state c.run_first.new.self) _ c.loop-self-test.true c.in-default.is c.in-Ok.ensures
+    quiet first_figure (run_state c.loop-self.self) (run_state c.run_first.new.self) _ c.loop-self-test.true c.in_default.is c.in-Ok.ensures
     ∙ c.loop-self.invariant
 
 pub returns-in-Some : goal.returns-in-Some

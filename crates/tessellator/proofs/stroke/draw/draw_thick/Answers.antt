@@ -1,4 +1,4 @@
-use Rattle.std.proofs.Common.{◌≡◌, ◌+◌, ◌-◌, ◌*◌, length, refl, arith}
+use Rattle.std.proofs.Common.{◌+◌, ◌-◌, ◌*◌, length, refl, arith}
 use Rattle.tessellator.specs.State.{mesh_state}
 use Rattle.tessellator.proofs.Growth.{index_room_left, vertices_kept, triangles_step, figure_drawn, length-bands}
 use Rattle.tessellator.proofs.Lined.{room_few, thick_counted}

@@ -1,4 +1,4 @@
-use Rattle.std.proofs.Common.{◌≡◌, ℕ, ◌<◌, ◌≤◌, List, length, sym, ap, ◌∙◌, subst, arith}
+use Rattle.std.proofs.Common.{ℕ, List, length, sym, ap, ◌∙◌, subst, arith}
 use Rattle.path.specs.Held.{Held, path_state}
 use Rattle.path.specs.declared.point.PathPoint.{PathPoint}
 use Rattle.tessellator.specs.Outcome.{mesh_after}
@@ -33,9 +33,12 @@ draw_along-requires g c =
     let middle = c.as_slice-2.ensures ∙ ap (λ (h : Held PathPoint). h.used) c.centre.ensures in
     let used = (path_state c.args.path.now).used in
     let long = ap length c.as_slice.ensures in
-    let as_long = ap length middle ∙ length-centred s.kind s.width used in record { enough = omega (arith, c.if-as_slice-lt2.false); fits = subst (λ (n : ℕ). LineFits (style_of c.args.feathering s.width) n (mesh_state c.args.out.now)) (sym (ap length middle))
+    let as_long = ap length middle ∙ length-centred s.kind s.width used in record {
+      enough = omega (arith, c.if-as_slice-lt2.false);
+      fits = subst (λ (n : ℕ). LineFits (style_of c.args.feathering s.width) n (mesh_state c.args.out.now)) (sym (ap length middle))
           (line_fits c.args.feathering s.width s.kind (g.C.ColorRule.colour s.color) (g.C.ColorRule.plain s.color) used
-          (omega (arith, c.if-as_slice-lt2.false)) c.if-stroke.false (sym c.is_clear.ensures ∙ c.if-is_clear.false) (mesh_state c.args.out.now) c.requires) }
+          (omega (arith, c.if-as_slice-lt2.false)) c.if-stroke.false (sym c.is_clear.ensures ∙ c.if-is_clear.false) (mesh_state c.args.out.now) c.requires);
+    }
 
 pub returns : goal.returns
 returns g c =
