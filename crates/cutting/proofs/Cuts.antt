@@ -1,7 +1,7 @@
 -- The cutting that fills each run as far as it goes is a cutting, and none has fewer runs.
 -- Assumes nothing.
 use Rattle.std.proofs.Common.{◌≡◌, ℕ, suc, ◌+◌, ◌-◌, ◌≤◌, min, max, leb, List, [], ◌∷◌, ◌++◌, length, refl, ap, ◌∙◌, arith}
-use Rattle.std.specs.List.{AllByRecursion as All}
+use Rattle.std.specs.List.{AllByRecursion}
 use Rattle.std.proofs.lemmas.Bool.{cond_both, leb-true, leb-false}
 use Rattle.tessellator.specs.Triangles.{Triangle, tri}
 use Rattle.cutting.specs.Cutting.{lowest, highest, Legal, joined, Cutting, onto, go_on, cut, Narrow}
@@ -28,17 +28,17 @@ joined_cut (tri x y z ∷ ts) =
 -- the first run goes on from low and high, and is legal with what it had; the others are legal
 abbrev Fine : ℕ → ℕ → List (List Triangle) → Type 0
 Fine low high [] = ⊥
-Fine low high (run ∷ runs) = (highest high run - lowest low run + 1 ≤ 65535) × All Legal runs
+Fine low high (run ∷ runs) = (highest high run - lowest low run + 1 ≤ 65535) × AllByRecursion Legal runs
 
 fine_onto : (x y z low high : ℕ) (runs : List (List Triangle)) → Fine (min low (min x (min y z))) (max high (max x (max y z))) runs → Fine low high (onto (tri x y z) runs)
 fine_onto x y z low high [] h = absurd h
 fine_onto x y z low high (run ∷ runs) h = h
 
-legal_onto : (x y z : ℕ) (runs : List (List Triangle)) → Fine (min x (min y z)) (max x (max y z)) runs → All Legal (onto (tri x y z) runs)
+legal_onto : (x y z : ℕ) (runs : List (List Triangle)) → Fine (min x (min y z)) (max x (max y z)) runs → AllByRecursion Legal (onto (tri x y z) runs)
 legal_onto x y z [] h = absurd h
 legal_onto x y z (run ∷ runs) (h, r) = ((omega arith, h), r)
 
-fine_go : (ts : List Triangle) (low high : ℕ) → high - low + 1 ≤ 65535 → All Narrow ts → Fine low high (go_on low high ts)
+fine_go : (ts : List Triangle) (low high : ℕ) → high - low + 1 ≤ 65535 → AllByRecursion Narrow ts → Fine low high (go_on low high ts)
 fine_go [] low high h a = (h, tt)
 fine_go (tri x y z ∷ ts) low high h (one, a) =
     let p : ℕ = min x (min y z) in
@@ -82,7 +82,7 @@ module _ (rest : List Triangle) (n : ℕ) (few : (low high : ℕ) → length (go
             (inside run p q (min l p) (max h q) (omega arith) (omega arith) legal),
       ))
 
-go_few : (runs : List (List Triangle)) → All Legal runs → (low high : ℕ) → length (go_on low high (joined runs)) ≤ length runs + 1
+go_few : (runs : List (List Triangle)) → AllByRecursion Legal runs → (low high : ℕ) → length (go_on low high (joined runs)) ≤ length runs + 1
 go_few [] a low high = omega arith
 go_few ([] ∷ runs) ((l, s), a) low high = omega (arith, l)
 go_few ((tri x y z ∷ run) ∷ runs) ((l, s), a) low high =
@@ -98,7 +98,7 @@ go_few ((tri x y z ∷ run) ∷ runs) ((l, s), a) low high =
           (inside (joined runs) (length runs) few run p q p q (omega arith) (omega arith) s),
     ))
 
-pub cut_few : (runs : List (List Triangle)) → All Legal runs → length (cut (joined runs)) ≤ length runs
+pub cut_few : (runs : List (List Triangle)) → AllByRecursion Legal runs → length (cut (joined runs)) ≤ length runs
 cut_few [] a = omega arith
 cut_few ([] ∷ runs) ((l, s), a) = omega (arith, l)
 cut_few ((tri x y z ∷ run) ∷ runs) ((l, s), a) =
@@ -107,7 +107,7 @@ cut_few ((tri x y z ∷ run) ∷ runs) ((l, s), a) =
     length-onto (tri x y z) (go_on p q (run ++ joined runs)) (suc (length runs)) (omega arith)
     (omega (arith, inside (joined runs) (length runs) (go_few runs a) run p q p q (omega arith) (omega arith) s))
 
-pub cut_cuts : (ts : List Triangle) → All Narrow ts → Cutting ts (cut ts)
+pub cut_cuts : (ts : List Triangle) → AllByRecursion Narrow ts → Cutting ts (cut ts)
 cut_cuts [] a = (refl, tt)
 cut_cuts (tri x y z ∷ ts) (one, a) =
     let p : ℕ = min x (min y z) in

@@ -1,6 +1,6 @@
 -- Where the part of each run lies among the indices of all runs.
 use Rattle.std.proofs.Common.{◌≡◌, ℕ, zero, suc, ◌+◌, ◌-◌, ◌*◌, ◌%◌, ◌<◌, ◌≤◌, min, max, List, [], ◌∷◌, ◌++◌, length, get_or, sym, refl, ap, ◌∙◌, subst, arith}
-use Rattle.std.specs.List.{AllByRecursion as All}
+use Rattle.std.specs.List.{AllByRecursion}
 use Rattle.std.proofs.lemmas.List.{length-append, length-map, get_or_append_left, get_or-append-add, get_or-map}
 use Rattle.tessellator.specs.Triangles.{Triangle, tri, flat}
 use Rattle.ecolor.specs.declared.vertex.TextureId.{TextureId}
@@ -19,7 +19,7 @@ Below v is = (k : ℕ) → k < length is → get_or is k 0 < v
 pub record Lies (b : ℕ) (texture : TextureId) (runs : List (List Triangle)) (p : Part) : Type 0 where
   pub textured : p.texture_id ≡ texture
   pub triangles : p.index_count % 3 ≡ 0
-  pub small : All Legal runs → p.vertex_count ≤ 65535
+  pub small : AllByRecursion Legal runs → p.vertex_count ≤ 65535
   pub offset : ℕ
   pub first : p.first_index ≡ b + offset
   pub long : offset + p.index_count ≤ length (lowered runs)

@@ -1,6 +1,6 @@
 -- What holds of every outcome of a cutting.
 use Rattle.std.proofs.Common.{◌≡◌, ℕ, ◌+◌, ◌-◌, ◌<◌, ◌≤◌, leb, List, [], ◌∷◌, length, get_or, drop, Some, None, Ok, Err, Option, Result, sym, refl, ap, ◌∙◌, subst, arith}
-use Rattle.std.specs.List.{AllByRecursion as All}
+use Rattle.std.specs.List.{AllByRecursion}
 use Rattle.std.proofs.lemmas.List.{get_or_append_left, take_at}
 use Rattle.std.proofs.lemmas.Bool.{cond_both, leb-true}
 use Rattle.emath.specs.Answers.{Answer, accepted, refused}
@@ -33,7 +33,7 @@ module _ (P : Outcome → Type 0) (m : MeshState) (memory : List ℕ) (table : L
   of_narrow (Some k) o p = declined (CutFault.Span k)
 
   pub of_each : (length m.vertices ≤ 65535 → Placed m.indices (whole m ∷ [])) →
-      (All Narrow (triples m.indices) → Placed (lowered (cut (triples m.indices))) (parts_from 0 m.texture (cut (triples m.indices)))) → P (cutting m memory table)
+      (AllByRecursion Narrow (triples m.indices) → Placed (lowered (cut (triples m.indices))) (parts_from 0 m.texture (cut (triples m.indices)))) → P (cutting m memory table)
   of_each one runs =
       let is = lowered (cut (triples m.indices)) in
       let ps = parts_from 0 m.texture (cut (triples m.indices)) in
@@ -74,7 +74,7 @@ one_stands m memory table proper few = record {
   within = λ j h. let at : 0 + j < length m.indices = omega arith in omega (arith, proper.named (0 + j) at);
 }
 
-run_stands : (m : MeshState) (memory : List ℕ) (table : List Part) (answer : Answer ℕ) (p : Part) → Proper m → All Narrow (triples m.indices) → Lies 0 m.texture (cut (triples m.indices)) p →
+run_stands : (m : MeshState) (memory : List ℕ) (table : List Part) (answer : Answer ℕ) (p : Part) → Proper m → AllByRecursion Narrow (triples m.indices) → Lies 0 m.texture (cut (triples m.indices)) p →
     SoundPart m (record { answer = answer; indices = on_front (lowered (cut (triples m.indices))) memory; parts = table }) p
 run_stands m memory table answer p proper narrow l =
     let runs = cut (triples m.indices) in

@@ -1,6 +1,6 @@
 -- A run of triangles as far as it goes.
 use Rattle.std.proofs.Common.{◌≡◌, ℕ, zero, suc, ◌+◌, ◌-◌, ◌*◌, ◌/◌, ◌<◌, ◌≤◌, min, max, true, false, List, [], ◌∷◌, ◌++◌, length, get_or, drop, sym, refl, ap, ◌∙◌, subst, arith}
-use Rattle.std.specs.List.{between, AllByRecursion as All}
+use Rattle.std.specs.List.{between, AllByRecursion}
 use Rattle.std.proofs.lemmas.List.{drop_more, drop_all, append-nil, append_assoc, length-append}
 use Rattle.std.proofs.lemmas.Bool.{leb-true}
 use Rattle.tessellator.specs.Triangles.{Triangle, tri, flat, triples}
@@ -84,16 +84,16 @@ pub record Running (is : List ℕ) (first end : ℕ) (s : Span) : Type 0 where
   pub ordered : s.least ≤ s.greatest
   pub fits : width s ≤ 65535
   pub runs : runs_after (span_of (triangle (triples is) first)) (drop (first + 1) (triples is)) ≡ prefixed tail (runs_after s (drop end (triples is)))
-  pub others : All Narrow (drop end (triples is))
+  pub others : AllByRecursion Narrow (drop end (triples is))
 
 module _ (is : List ℕ) where
   at : (k : ℕ) → k < length is / 3 → drop k (triples is) ≡ triangle (triples is) k ∷ drop (k + 1) (triples is)
   at k h = drop_more (triples is) k (tri 0 0 0) (omega (arith, length-triples is))
 
-  pub run_begins : (first : ℕ) (s : Span) → first < length is / 3 → All Narrow (drop first (triples is)) → s ≡ span_of (triangle (triples is) first) → Running is first (first + 1) s
+  pub run_begins : (first : ℕ) (s : Span) → first < length is / 3 → AllByRecursion Narrow (drop first (triples is)) → s ≡ span_of (triangle (triples is) first) → Running is first (first + 1) s
   run_begins first s h a e =
       let t = triangle (triples is) first in
-      let all = subst (All Narrow) (at first h) a in
+      let all = subst (AllByRecursion Narrow) (at first h) a in
       subst (Running is first (first + 1)) (sym e)
       (record {
         tail = [];
@@ -112,7 +112,7 @@ module _ (is : List ℕ) where
     pub run_takes : (wider : Span) → end < length is / 3 → wider ≡ both s (span_of (triangle (triples is) end)) → narrow wider ≡ true → Running is first (end + 1) wider
     run_takes wider h e fits =
         let t = triangle (triples is) end in
-        let all = subst (All Narrow) (at end h) r.others in
+        let all = subst (AllByRecursion Narrow) (at end h) r.others in
         let joined = sym (ap narrow e) ∙ fits in
         subst (Running is first (end + 1)) (sym e)
         (record {

@@ -1,6 +1,6 @@
 -- From what a split has checked and written to what it answers and leaves.
 use Rattle.std.proofs.Common.{◌≡◌, ℕ, ◌+◌, ◌-◌, ◌*◌, ◌<◌, ◌≤◌, Bool, true, false, cond, leb, List, [], ◌∷◌, ◌++◌, length, drop, set, Some, None, Ok, Err, Option, Result, sym, refl, ap, ◌∙◌, arith}
-use Rattle.std.specs.List.{AllByRecursion as All}
+use Rattle.std.specs.List.{AllByRecursion}
 use Rattle.std.proofs.lemmas.List.{length-append, length-map}
 use Rattle.std.proofs.lemmas.Bool.{leb-true}
 use Rattle.tessellator.specs.State.{MeshState}
@@ -61,13 +61,13 @@ narrow_ok : (b : Bool) (k : ℕ) (rest : Option ℕ) → cond b rest (Some k) �
 narrow_ok true k rest e = (refl, e)
 narrow_ok false k rest e = absurd (let z : ◌≡◌ {A = ℕ} 0 1 = cc in omega arith)
 
-pub all_narrow : (k : ℕ) (ts : List Triangle) → too_wide k ts ≡ None → All Narrow ts
+pub all_narrow : (k : ℕ) (ts : List Triangle) → too_wide k ts ≡ None → AllByRecursion Narrow ts
 all_narrow k [] e = tt
 all_narrow k (t ∷ ts) e =
     let (here, rest) = narrow_ok (leb (span (t ∷ [])) 65535) k (too_wide (k + 1) ts) e in
     (leb-true _ _ here, all_narrow (k + 1) ts rest)
 
-pub run_count_lem : (ts : List Triangle) (count : ℕ) → Ok count ≡ run_count ts → All Narrow ts × (count ≡ length (cut ts))
+pub run_count_lem : (ts : List Triangle) (count : ℕ) → Ok count ≡ run_count ts → AllByRecursion Narrow ts × (count ≡ length (cut ts))
 run_count_lem ts count e =
     let (none, same) = counted_ok (too_wide 0 ts) (length (cut ts)) count e in
     (all_narrow 0 ts none, same)

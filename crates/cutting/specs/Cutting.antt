@@ -1,6 +1,6 @@
 -- Runs of triangles that 16-bit indices can name, and the least number of them.
 use Rattle.std.specs.Prelude.{◌≡◌, ℕ, ◌+◌, ◌-◌, ◌≤◌, min, max, cond, List, [], ◌∷◌, ◌++◌, length, nat_le}
-use Rattle.std.specs.List.{AllByRecursion as All}
+use Rattle.std.specs.List.{AllByRecursion}
 use Rattle.tessellator.specs.Triangles.{Triangle, tri}
 
 -- the least and greatest index of a run that has those of `low` and `high` already
@@ -31,7 +31,7 @@ joined (run ∷ runs) = run ++ joined runs
 
 -- a cutting in order: each triangle in one legal run
 abbrev pub Cutting : List Triangle → List (List Triangle) → Type 0
-Cutting ts runs = (joined runs ≡ ts) × All Legal runs
+Cutting ts runs = (joined runs ≡ ts) × AllByRecursion Legal runs
 
 -- puts a triangle in front of the first run
 abbrev pub onto : Triangle → List (List Triangle) → List (List Triangle)

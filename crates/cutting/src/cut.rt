@@ -1,6 +1,6 @@
 //! Cutting a mesh.
 ghost use Rattle.std.specs.Prelude.{◌≡◌, ◌/◌, ◌<◌, ◌≤◌, length, slice_index_or};
-ghost use Rattle.std.specs.List.{AllByRecursion as All};
+ghost use Rattle.std.specs.List.{AllByRecursion};
 ghost use Rattle.tessellator.specs.State.{finished_state};
 ghost use Rattle.tessellator.specs.Triangles.{tri, triples};
 ghost use Rattle.cutting.specs.Cutting.{cut, Narrow};
@@ -81,7 +81,7 @@ fn count_runs(indices: &[u32]) -> Result<usize, CutFault>
 
 /// Writes each run as a part: its vertices from the least to the greatest index, and its indices less by the least.
 fn write_runs(source: &[u32], texture_id: TextureId, indices: &mut [u16], parts: &mut [Part])
-    requires narrow { All Narrow (triples source.now) }
+    requires narrow { AllByRecursion Narrow (triples source.now) }
     requires space { length source.now ≤ length indices.old }
     requires table { length parts.old ≡ length (cut (triples source.now)) }
     ensures lowers { indices.new ≡ on_front (lowered (cut (triples source.now))) indices.old }

@@ -1,5 +1,5 @@
 use Rattle.std.proofs.Common.{◌-◌, ◌*◌, drop}
-use Rattle.std.specs.List.{AllByRecursion as All}
+use Rattle.std.specs.List.{AllByRecursion}
 use Rattle.tessellator.specs.Triangles.{triples}
 use Rattle.cutting.specs.Cutting.{cut, Narrow}
 use Rattle.cutting.specs.Parts.{lowered, parts_from}
@@ -17,6 +17,6 @@ abbrev pub invariant-loop-part : goal.invariant-loop-part
 invariant-loop-part l =
     let ts = triples l.source in
     let runs = cut (drop l.first ts) in
-    All Narrow (drop l.first ts)
+    AllByRecursion Narrow (drop l.first ts)
     × Writing (lowered (cut ts)) l.initial.indices (3 * l.first) l.indices (lowered runs)
     × Writing (parts_from 0 l.«texture_id» (cut ts)) l.initial.parts l.part-index l.parts (parts_from (3 * l.first) l.«texture_id» runs)
