@@ -11,7 +11,7 @@ Names of the code, of the library and of generated goals stay as they are.
 import os
 import re
 
-WORD = re.compile(r"[A-Za-z_][\w'\-]*")
+WORD = re.compile(r"(?<![0-9])[A-Za-z_][\w'\-]*")
 CAMEL = re.compile(r"[a-z][a-z0-9_']*[A-Z][\w']*\Z")
 HEAD = re.compile(
     r"^\s*(?:(?:abbrev|unfoldable|pub|data|record|ruleset)\s+)*([^\s(){}:;,.\[\]]+)\s*(?:\(.*\)|\{.*\})?\s*:\s"

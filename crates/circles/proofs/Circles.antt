@@ -53,7 +53,7 @@ one_of false P p q = q
 by_radius_lem : (P : ℕ → List Entry → Type 0) → P 2 entries8 → P 4 entries16 → P 8 entries32 → P 16 entries64 → P 32 entries128 → (r : Float) → P (quarter_steps r) (entries r)
 unfolding quarter_steps
 by_radius_lem P a b c d e r =
-    one_of (le r plane.two) P a (one_of (le r (of_bits binary32 0x40_a0_0000)) P b (one_of (lt r (of_bits binary32 0x4190_0000)) P c (one_of (lt r (of_bits binary32 0x4248_0000)) P d e)))
+    one_of (le r plane.two) P a (one_of (le r (of_bits binary32 0x40A0_0000)) P b (one_of (lt r (of_bits binary32 0x4190_0000)) P c (one_of (lt r (of_bits binary32 0x4248_0000)) P d e)))
 
 pub unit_circle : (r : Float) → UnitCircle (quarter_steps r) (entries r)
 unit_circle =

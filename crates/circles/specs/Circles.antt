@@ -117,7 +117,7 @@ entries128 =
 -- Radii to 2, to 5, below 18, below 50, and the others.
 abbrev pub by_radius : {A : Type 0} → A → A → A → A → A → Float → A
 by_radius a b c d e r =
-    cond (le r plane.two) a (cond (le r (from_bits binary32 0x40_a0_0000)) b (cond (lt r (from_bits binary32 0x4190_0000)) c (cond (lt r (from_bits binary32 0x4248_0000)) d e)))
+    cond (le r plane.two) a (cond (le r (from_bits binary32 0x40A0_0000)) b (cond (lt r (from_bits binary32 0x4190_0000)) c (cond (lt r (from_bits binary32 0x4248_0000)) d e)))
 
 abbrev pub entries : Float → List Entry
 entries r = by_radius entries8 entries16 entries32 entries64 entries128 r

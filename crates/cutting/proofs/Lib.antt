@@ -6,5 +6,4 @@ pub mod Parting
 pub mod Promises
 pub mod Running
 pub mod Splitting
-pub mod Triples
 pub mod Writing

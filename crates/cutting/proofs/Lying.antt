@@ -9,7 +9,7 @@ use Rattle.cutting.specs.Parts.{part, least, less, lowered, parts_from}
 use Rattle.cutting.specs.Promises.{InRow}
 use Rattle.cutting.specs.declared.part.Part.{Part}
 use Rattle.cutting.proofs.Running.{low_down, high_up, ends_from, run_within}
-use Rattle.cutting.proofs.Triples.{length-flat, flat_append}
+use Rattle.tessellator.proofs.Triples.{length-flat, flat_append}
 
 -- every index of the list is below v
 abbrev pub Below : ℕ → List ℕ → Type 0

@@ -14,7 +14,7 @@ use Rattle.cutting.specs.declared.part.Part.{Part}
 use Rattle.cutting.specs.declared.span.Span.{Span}
 use Rattle.cutting.proofs.Counting.{runs_after, starts, onto_some}
 use Rattle.cutting.proofs.Running.{Running, run, run_length, run_indices, run_least, run_span, run_cut}
-use Rattle.cutting.proofs.Triples.{length-triples, length-flat}
+use Rattle.tessellator.proofs.Triples.{length-triples, length-flat}
 use Rattle.cutting.proofs.Writing.{Writing, reached, ends, part_written, one_written}
 
 pub length-parts : (first : ℕ) (texture : TextureId) (runs : List (List Triangle)) → length (parts_from first texture runs) ≡ length runs

@@ -17,7 +17,7 @@ use Rattle.cutting.proofs.Finished.{Proper}
 use Rattle.cutting.proofs.Lying.{Lies, lies, in_row}
 use Rattle.cutting.proofs.Parting.{length-parts}
 use Rattle.cutting.proofs.Splitting.{all_narrow}
-use Rattle.cutting.proofs.Triples.{flat_triples}
+use Rattle.tessellator.proofs.Triples.{flat_triples}
 
 -- To show P of every outcome: of a refusal, of one part, and of runs.
 module _ (P : Outcome → Type 0) (m : MeshState) (memory : List ℕ) (table : List Part) (declined : (fault : CutFault) → P (left (Err fault) memory table)) where

@@ -9,7 +9,7 @@ use Rattle.cutting.specs.Parts.{least, Within}
 use Rattle.cutting.specs.Spans.{span_of, both, narrow, width}
 use Rattle.cutting.specs.declared.span.Span.{Span}
 use Rattle.cutting.proofs.Counting.{runs_after, triangle, starts, goes_on, stops, span_ordered, some_after}
-use Rattle.cutting.proofs.Triples.{length-triples, between_flat}
+use Rattle.tessellator.proofs.Triples.{length-triples, between_flat}
 
 -- a run that was begun, in front of what it goes on with
 abbrev pub prefixed : List Triangle → List (List Triangle) → List (List Triangle)

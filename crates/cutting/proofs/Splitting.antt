@@ -13,7 +13,7 @@ use Rattle.cutting.specs.declared.part.Part.{Part}
 use Rattle.cutting.proofs.Cuts.{joined_cut}
 use Rattle.cutting.proofs.Finished.{Proper}
 use Rattle.cutting.proofs.Parting.{length-parts}
-use Rattle.cutting.proofs.Triples.{length-triples, length-flat}
+use Rattle.tessellator.proofs.Triples.{length-triples, length-flat}
 
 less_zero : (is : List ℕ) → less 0 is ≡ is
 less_zero [] = refl

@@ -6,7 +6,7 @@ use Rattle.path.specs.Builders.{Left, left, declined, line_added}
 use Rattle.path.specs.Held.{Held, emptied}
 use Rattle.path.specs.declared.fault.PathFault.{PathFault}
 use Rattle.path.specs.declared.fault.PathFault.TheVariants.{OutOfLimits, TooFewPoints, NoSpace}
-use Rattle.path.specs.declared.path.Path.{Path}
+use Rattle.path.specs.declared.slice_vec.SliceVec.{SliceVec}
 use Rattle.path.specs.declared.point.PathPoint.{PathPoint}
 use Rattle.drawing_file.specs.Values.{places_of}
 
@@ -15,7 +15,7 @@ pub record Replaced : Type 0 where
   pub line : Left
   pub places : List Pos2
 
-abbrev pub remains : Result (Unit {0}) PathFault → Path → List Pos2 → Replaced
+abbrev pub remains : Result (Unit {0}) PathFault → SliceVec PathPoint → List Pos2 → Replaced
 remains r path places = record { line = left r path; places = places }
 
 -- a line with more places than the memory holds is refused, for the same reasons and in the same order as by the path

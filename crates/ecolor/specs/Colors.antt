@@ -12,7 +12,7 @@ is_transparent c = c.r == 0 && (c.g == 0 && (c.b == 0 && c.a == 0))
 
 -- ⌊byte · factor + 0.5⌋, from 0 to 255
 abbrev pub faded_byte : Float → ℕ → ℕ
-faded_byte factor byte = to_unsigned 8 (add binary32 (mul binary32 (of_int binary32 (pos byte)) factor) (from_bits binary32 0x3_f00_0000))
+faded_byte factor byte = to_unsigned 8 (add binary32 (mul binary32 (of_int binary32 (pos byte)) factor) (from_bits binary32 0x3F00_0000))
 
 abbrev pub faded : Float → Color32 → Color32
 faded factor c = record { r = faded_byte factor c.r; g = faded_byte factor c.g; b = faded_byte factor c.b; a = faded_byte factor c.a }

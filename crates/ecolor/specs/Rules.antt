@@ -14,9 +14,9 @@ across box p = div binary32 (sub binary32 p.x box.min.x) (sub binary32 box.max.x
 -- the first below 0.25, then below 0.5, below 0.75, else the last
 abbrev pub zone_at : Zones → Float → Color32
 zone_at zones t =
-    cond (lt t (from_bits binary32 0x3_e80_0000)) zones.first
-    (cond (lt t (from_bits binary32 0x3_f00_0000)) zones.second
-    (cond (lt t (from_bits binary32 0x3_f40_0000)) zones.third zones.last))
+    cond (lt t (from_bits binary32 0x3E80_0000)) zones.first
+    (cond (lt t (from_bits binary32 0x3F00_0000)) zones.second
+    (cond (lt t (from_bits binary32 0x3F40_0000)) zones.third zones.last))
 
 abbrev pub zone_colour : Zones → Rect → Pos2 → Color32
 zone_colour zones box p = zone_at zones (across box p)

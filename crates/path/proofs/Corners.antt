@@ -1,12 +1,8 @@
 -- The points of open lines.
-use Rattle.std.proofs.Common.{◌≡◌, ℕ, ◌+◌, ◌-◌, ◌*◌, ◌≤◌, Bool, true, false, cond, leb, List, [], ◌∷◌, ◌++◌, length, get_or, take, drop, Ok, Err, Result, sym, refl, ap, ◌∙◌, subst, arith, length-append}
+use Rattle.std.proofs.Common.{◌≡◌, ℕ, ◌+◌, ◌-◌, ◌*◌, ◌≤◌, List, [], ◌∷◌, ◌++◌, length, get_or, take, drop, sym, refl, ap, ◌∙◌, subst, arith, length-append}
 use Rattle.std.proofs.lemmas.List.{take_all}
-use Rattle.std.proofs.lemmas.Bool.{cond-true, cond-false, le-ltb}
-use Rattle.emath.specs.Limits.{all_places}
-use Rattle.path.specs.Builders.{declined, line_added, reserved}
-use Rattle.path.specs.declared.fault.PathFault.{PathFault}
-use Rattle.path.specs.declared.fault.PathFault.TheVariants.{NoSpace}
 use Rattle.path.specs.Held.{Held, extended, room}
+use Rattle.path.specs.Builders.{Along, done, once, twice}
 use Rattle.path.specs.Lines.{point, corner_count, corner_points, turn_of, edge_normal, open_corners, open_points}
 use Rattle.path.specs.declared.point.PathPoint.{PathPoint}
 use Rattle.emath.specs.declared.plane.Pos2.{Pos2}
@@ -56,6 +52,25 @@ no_more n line p (q ∷ qs) =
 pub open_bounds : (p q : Pos2) (qs : List Pos2) → (2 + length qs ≤ length (open_points (p ∷ q ∷ qs))) × (length (open_points (p ∷ q ∷ qs)) ≤ 2 + 2 * length qs)
 open_bounds p q qs = (omega (arith, no_fewer (edge_normal p q) (edge_normal p q) q qs), omega (arith, no_more (edge_normal p q) (edge_normal p q) q qs))
 
+-- ---- where the points of a line lie
+
+corner_along : (p : Pos2) (k : Corner) (places : List Pos2) (points : List PathPoint) → Along places points → Along (p ∷ places) (corner_points p k ++ points)
+corner_along p (Mitre n) places points a = once p n a
+corner_along p (Cut n m) places points a = twice p n m a
+
+corners_along : (n edge : Vec2) (p : Pos2) (qs : List Pos2) → Along (p ∷ qs) (open_corners n edge p qs)
+corners_along n edge p [] = once p edge done
+corners_along n edge p (q ∷ qs) =
+    let m = edge_normal p q in
+    corner_along p (turn_of n m).corner (q ∷ qs) (open_corners (turn_of n m).normal m q qs) (corners_along (turn_of n m).normal m q qs)
+
+pub open_along : (places : List Pos2) → 2 ≤ length places → Along places (open_points places)
+open_along [] h = absurd (omega arith)
+open_along (p ∷ []) h = absurd (omega arith)
+open_along (p ∷ q ∷ qs) h = once p (edge_normal p q) (corners_along (edge_normal p q) (edge_normal p q) q qs)
+
+-- ---- writing them
+
 module _ {start : Held PathPoint} {all : List PathPoint} {at : Held PathPoint} (n line : Vec2) (p q : Pos2) (qs : List Pos2) (m : Vec2) (t : Turn) (em : m ≡ edge_normal p q) (et : t ≡ turn_of n m) where
   turned : Growing start all at (open_corners n line p (q ∷ qs)) → Growing start all at (corner_points p t.corner ++ open_corners t.normal m q qs)
   turned b =
@@ -86,15 +101,3 @@ pub in_parts : (ps : List Pos2) (d : Pos2) → 2 ≤ length ps → open_points (
 in_parts [] d h = absurd (omega arith)
 in_parts (p ∷ []) d h = absurd (omega arith)
 in_parts (p ∷ q ∷ qs) d h = ap (λ l. open_points (p ∷ q ∷ l)) (take_all _ qs (omega arith))
-
-refused_for : (fits : Bool) (fault : PathFault) → ◌≡◌ {A = Result (Unit {0}) PathFault} (Err fault) (cond fits (Ok tt) (Err NoSpace)) → (fits ≡ false) × (fault ≡ NoSpace)
-refused_for true fault e = absurd (let z : ◌≡◌ {A = ℕ} 0 1 = cc in omega arith)
-refused_for false fault e = (refl, cc)
-
--- a line for which there is no space
-pub no_space : (places : List Pos2) (h : Held PathPoint) (n : ℕ) (fault : PathFault) → all_places places ≡ true → 2 ≤ length places → n ≡ length (open_points places) →
-    Err fault ≡ reserved n (room h) → declined fault h ≡ line_added places h
-no_space places h n fault allowed many is e =
-    let no = refused_for (leb n (room h)) fault e in
-    ap (λ f. declined f h) no.1
-    ∙ sym (cond-true _ _ _ allowed ∙ cond-false _ _ _ (le-ltb (length places) 2 many) ∙ cond-false _ _ _ (ap (λ k. leb k (room h)) (sym is) ∙ no.0))

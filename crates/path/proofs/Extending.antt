@@ -1,62 +1,94 @@
--- What a builder that is accepted adds.
-use Rattle.std.proofs.Common.{◌≡◌, ◌≤◌, Bool, true, false, cond, ◌&&◌, ltb, List, [], ◌∷◌, ◌++◌, length, sym, refl, subst, arith}
-use Rattle.std.proofs.lemmas.Bool.{ltb-false}
-use Rattle.emath.specs.Answers.{Answer, accepted, refused}
-use Rattle.emath.specs.Limits.{is_place, all_places, is_vector}
-use Rattle.emath.specs.declared.plane.Pos2.{Pos2}
-use Rattle.emath.specs.declared.plane.Vec2.{Vec2}
-use Rattle.path.specs.Builders.{Left, Along, done, once, twice, Extends, appended, point_added, line_added}
-use Rattle.path.specs.Held.{Held, extended}
-use Rattle.path.specs.Lines.{point, edge_normal, corner_points, turn_of, open_corners, open_points}
-use Rattle.path.specs.declared.line.Corner.{Corner}
-use Rattle.path.specs.declared.line.Corner.TheVariants.{Mitre, Cut}
-use Rattle.path.specs.declared.point.PathPoint.{PathPoint}
+-- What a call answers, leaves and keeps to.
+use Rattle.std.proofs.Common.{◌≡◌, ℕ, ◌≤◌, Bool, true, false, cond, leb, List, ◌++◌, length, Ok, Err, Result, sym, refl, ap, ◌∙◌, subst, arith, length-append}
+use Rattle.std.proofs.lemmas.Bool.{cond-true, cond-false, le-leb, leb-true}
+use Rattle.emath.specs.Answers.{Answer, accepted}
+use Rattle.path.specs.Adding.{Change, unchanged, put_behind, added, replaced}
+use Rattle.path.specs.Builders.{reserved}
+use Rattle.path.specs.Held.{Held, emptied, extended, room}
+use Rattle.path.specs.Laws.{Same, Keeps}
+use Rattle.path.specs.declared.fault.PathFault.{PathFault}
+use Rattle.path.specs.declared.fault.PathFault.TheVariants.{NoSpace}
 
-corner_along : (p : Pos2) (k : Corner) (places : List Pos2) (points : List PathPoint) → Along places points → Along (p ∷ places) (corner_points p k ++ points)
-corner_along p (Mitre n) places points a = once p n a
-corner_along p (Cut n m) places points a = twice p n m a
+refused_for : (fits : Bool) (fault : PathFault) → ◌≡◌ {A = Result (Unit {0}) PathFault} (Err fault) (cond fits (Ok tt) (Err NoSpace)) → (fits ≡ false) × (fault ≡ NoSpace)
+refused_for true fault e = absurd (let z : ◌≡◌ {A = ℕ} 0 1 = cc in omega arith)
+refused_for false fault e = (refl, cc)
 
-corners_along : (n edge : Vec2) (p : Pos2) (qs : List Pos2) → Along (p ∷ qs) (open_corners n edge p qs)
-corners_along n edge p [] = once p edge done
-corners_along n edge p (q ∷ qs) =
-    let m = edge_normal p q in
-    corner_along p (turn_of n m).corner (q ∷ qs) (open_corners (turn_of n m).normal m q qs) (corners_along (turn_of n m).normal m q qs)
+-- ---- what a call answers and leaves that is to add xs
 
-open_along : (places : List Pos2) → 2 ≤ length places → Along places (open_points places)
-open_along [] h = absurd (omega arith)
-open_along (p ∷ []) h = absurd (omega arith)
-open_along (p ∷ q ∷ qs) h = once p (edge_normal p q) (corners_along (edge_normal p q) (edge_normal p q) q qs)
+module _ {X : Type 0} (from h : Held X) (what : Result (List X) PathFault) (xs : List X) (is : what ≡ Ok xs) where
+  pub all_space : (after : Held X) → length xs ≤ room from → after ≡ extended from xs → record { answer = accepted tt; after = after } ≡ put_behind from h what
+  all_space after fits grown =
+      ap (λ k. record { answer = accepted tt; after = k }) grown
+      ∙ sym (ap (put_behind from h) is ∙ cond-true _ _ _ (le-leb (length xs) (room from) fits))
 
--- an outcome as a law sees it
-abbrev Kept : List Pos2 → Held PathPoint → Left → Type 0
-Kept places h l = Extends l.answer places h l.path
+  pub no_space : (n : ℕ) (fault : PathFault) → n ≡ length xs → Err fault ≡ reserved n (room from) → unchanged fault h ≡ put_behind from h what
+  no_space n fault long e =
+      let no = refused_for (leb n (room from)) fault e in
+      ap (λ f. unchanged f h) no.1 ∙ sym (ap (put_behind from h) is ∙ cond-false _ _ _ (ap (λ k. leb k (room from)) (sym long) ∙ no.0))
 
-appended_kept : (fits : Bool) (places : List Pos2) (h : Held PathPoint) (points : List PathPoint) → Along places points →
-    Kept places h (cond fits (record { answer = accepted tt; path = extended h points }) (record { answer = refused 3 []; path = h }))
-appended_kept true places h points a = record { added = points; along = a; path = refl }
-appended_kept false places h points a = refl
+-- the same where the list was emptied first
+pub all_anew : {X : Type 0} (h empty after : Held X) (xs : List X) → empty ≡ emptied h → length xs ≤ room (emptied h) → after ≡ extended empty xs → record { answer = accepted tt; after = after } ≡ replaced (Ok xs) h
+all_anew h empty after xs is fits grown = all_space (emptied h) h (Ok xs) xs refl after fits (grown ∙ ap (λ k. extended k xs) is)
 
-point_kept : (allowed : Bool) (pos : Pos2) (normal : Vec2) (h : Held PathPoint) → Kept (pos ∷ []) h (cond allowed (appended h (point pos normal ∷ [])) (record { answer = refused 2 []; path = h }))
-point_kept true pos normal h = appended_kept _ (pos ∷ []) h (point pos normal ∷ []) (once pos normal done)
-point_kept false pos normal h = refl
+-- ---- what it keeps to
 
-long_kept : (few : Bool) (places : List Pos2) (h : Held PathPoint) → (few ≡ false → 2 ≤ length places) → Kept places h (cond few (record { answer = refused 1 []; path = h }) (appended h (open_points places)))
-long_kept true places h many = refl
-long_kept false places h many = appended_kept _ places h (open_points places) (open_along places (many refl))
+-- Where a call begins: behind what is in use, or at the front. With more memory it begins behind the same, with no less space.
+record Begins {X : Type 0} (from : Held X → Held X) (h k : Held X) : Type 0 where
+  same : (from k).used ≡ (from h).used
+  more : room (from h) ≤ room (from k)
 
-line_kept : (allowed : Bool) (places : List Pos2) (h : Held PathPoint) →
-    Kept places h (cond allowed (cond (ltb (length places) 2) (record { answer = refused 1 []; path = h }) (appended h (open_points places))) (record { answer = refused 2 []; path = h }))
-line_kept true places h = long_kept (ltb (length places) 2) places h (λ e. ltb-false (length places) 2 e)
-line_kept false places h = refl
+module _ {X : Type 0} (from : Held X → Held X) (begins : (h k : Held X) → k.used ≡ h.used → length h.unused ≤ length k.unused → Begins from h k) (Kind : List X → Type 0) (what : Result (List X) PathFault) (xs : List X) (is : what ≡ Ok xs) (kind : Kind xs) (h : Held X) where
+  same_added : (k : Held X) → length xs ≤ room (from h) → Begins from h k → Same (put_behind (from k) k what) (extended (from h) xs)
+  unfolding extended
+  same_added k fits b =
+      let all = sym (all_space (from k) k what xs is (extended (from k) xs) (omega (arith, b.more)) refl) in
+      record { answer = ap (λ l. l.answer) all; items = ap (λ l. l.after.used) all ∙ ap (λ us. us ++ xs) b.same }
 
--- what a builder answers and leaves, with what it keeps to
-pub record KeptTo (answer : Answer (Unit {0})) (places : List Pos2) (h h' : Held PathPoint) (outcome-of : Left) : Type 0 where
-  pub outcome : record { answer = answer; path = h' } ≡ outcome-of
-  pub extends : Extends answer places h h'
+  Kept : Change X → Type 0
+  Kept l = Keeps Kind (λ k. put_behind (from k) k what) (from h) l.answer h l.after
 
-module _ (answer : Answer (Unit {0})) (h h' : Held PathPoint) where
-  pub point_extends : (pos : Pos2) (normal : Vec2) → record { answer = answer; path = h' } ≡ point_added pos normal h → KeptTo answer (pos ∷ []) h h' (point_added pos normal h)
-  point_extends pos normal e = record { outcome = e; extends = subst (Kept (pos ∷ []) h) (sym e) (point_kept (is_place pos && is_vector normal) pos normal h) }
+  kept_where : (fits : Bool) → leb (length xs) (room (from h)) ≡ fits → Kept (cond fits (record { answer = accepted tt; after = extended (from h) xs }) (unchanged NoSpace h))
+  unfolding Kept
+  kept_where true e = record { extends = record { items = xs; kind = kind; all = refl }; elsewhere = λ k same more. same_added k (leb-true (length xs) (room (from h)) e) (begins h k same more) }
+  kept_where false e = record { extends = refl; elsewhere = tt }
 
-  pub line_extends : (places : List Pos2) → record { answer = answer; path = h' } ≡ line_added places h → KeptTo answer places h h' (line_added places h)
-  line_extends places e = record { outcome = e; extends = subst (Kept places h) (sym e) (line_kept (all_places places) places h) }
+  kept : (answer : Answer (Unit {0})) (after : Held X) → record { answer = answer; after = after } ≡ put_behind (from h) h what → Keeps Kind (λ k. put_behind (from k) k what) (from h) answer h after
+  unfolding Kept
+  kept answer after e = subst Kept (sym (e ∙ ap (put_behind (from h) h) is)) (kept_where (leb (length xs) (room (from h))) refl)
+
+module _ {X : Type 0} (h k : Held X) (same : k.used ≡ h.used) (more : length h.unused ≤ length k.unused) where
+  behind_used : Begins (λ h. h) h k
+  unfolding room
+  behind_used = record { same = same; more = omega (arith, ap length same) }
+
+  at_front : Begins emptied h k
+  unfolding room
+  at_front = record { same = refl; more = simp length-append (omega (arith, ap length same)) }
+
+module _ {X : Type 0} (Kind : List X → Type 0) (what : Result (List X) PathFault) (xs : List X) (is : what ≡ Ok xs) (kind : Kind xs) (h : Held X) (answer : Answer (Unit {0})) (after : Held X) where
+  pub added_keeps : record { answer = answer; after = after } ≡ added what h → Keeps Kind (added what) h answer h after
+  added_keeps = kept (λ k. k) behind_used Kind what xs is kind h answer after
+
+  pub replaced_keeps : record { answer = answer; after = after } ≡ replaced what h → Keeps Kind (replaced what) (emptied h) answer h after
+  replaced_keeps = kept emptied at_front Kind what xs is kind h answer after
+
+-- a builder that is accepted
+pub record Accepted {X : Type 0} (Kind : List X → Type 0) (what : Result (List X) PathFault) (h after : Held X) : Type 0 where
+  pub outcome : record { answer = accepted tt; after = after } ≡ added what h
+  pub adds : Keeps Kind (added what) h (accepted tt) h after
+
+pub accepts : {X : Type 0} (Kind : List X → Type 0) (what : Result (List X) PathFault) (xs : List X) (h after : Held X) → what ≡ Ok xs → Kind xs → length xs ≤ room h → after ≡ extended h xs → Accepted Kind what h after
+accepts Kind what xs h after is kind fits grown =
+    let outcome = all_space h h what xs is after fits grown in
+    record { outcome = outcome; adds = added_keeps Kind what xs is kind h (accepted tt) after outcome }
+
+-- a call that replaces what is in use, accepted or not
+pub record Rebuilt {X : Type 0} (Kind : List X → Type 0) (what : Result (List X) PathFault) (h : Held X) (answer : Answer (Unit {0})) (after : Held X) : Type 0 where
+  pub outcome : record { answer = answer; after = after } ≡ replaced what h
+  pub replaces : Keeps Kind (replaced what) (emptied h) answer h after
+
+pub rebuilds : {X : Type 0} (Kind : List X → Type 0) (what : Result (List X) PathFault) (xs : List X) {ys : List X} (h : Held X) (answer : Answer (Unit {0})) (after : Held X) → what ≡ Ok xs → Kind xs →
+    record { answer = answer; after = after } ≡ replaced (Ok ys) h → xs ≡ ys → Rebuilt Kind what h answer after
+rebuilds Kind what xs h answer after is kind e same =
+    let outcome = e ∙ ap (λ zs. replaced (Ok zs) h) (sym same) ∙ ap (λ w. replaced w h) (sym is) in
+    record { outcome = outcome; replaces = replaced_keeps Kind what xs is kind h answer after outcome }

@@ -1,12 +1,20 @@
 -- A list in lent memory that grows: what a loop that writes one item after the other keeps.
-use Rattle.std.proofs.Common.{◌≡◌, ℕ, ◌+◌, ◌-◌, ◌<◌, ◌≤◌, min, List, [], ◌∷◌, ◌++◌, map, length, get_or, take, drop, set, sym, refl, ap, ◌∙◌, subst, append_assoc, arith, length-append, length-drop, length-take}
+use Rattle.std.proofs.Common.{◌≡◌, ℕ, suc, ◌+◌, ◌-◌, ◌<◌, ◌≤◌, min, List, [], ◌∷◌, ◌++◌, map, length, get_or, take, drop, set, sym, refl, ap, ◌∙◌, subst, append_assoc, arith, length-append, length-drop, length-set, length-take}
 use Rattle.std.proofs.lemmas.List.{append-nil, drop-drop, drop_more, drop_all, take_more_set, drop-set-lt, take-append-drop, take_at, drop_at, length-map}
-use Rattle.path.specs.Held.{Held, held_in, emptied, empty_in, extended, rewritten, room}
+use Rattle.path.specs.Held.{Held, held_in, emptied, empty_in, extended, rewritten, room, held}
+use Rattle.path.specs.declared.slice_vec.SliceVec.{SliceVec}
 
 module _ {X : Type 0} where
-  pub room_is : (n : ℕ) (memory : List X) → n ≤ length memory → min (length memory) 1048576 - n ≡ room (held_in n memory)
+  pub room_in_all : (n : ℕ) (memory : List X) → min (length memory) 1048576 ≡ room (emptied (held_in n memory))
   unfolding room
-  room_is n memory fit = simp (length-take, length-drop) (omega arith)
+  room_in_all n memory = simp take-append-drop (omega arith)
+
+  pub used_fits : (n : ℕ) (memory : List X) → n ≤ length memory → n ≤ 1048576 → n ≤ room (emptied (held_in n memory))
+  used_fits n memory fit few = omega (arith, room_in_all n memory)
+
+  pub room_left_in : (n : ℕ) (memory : List X) → n ≤ length memory → room (emptied (held_in n memory)) - n ≡ room (held_in n memory)
+  unfolding room
+  room_left_in n memory fit = simp (take-append-drop, length-take, length-drop) (omega arith)
 
   pub room_fits : (n k : ℕ) (memory : List X) → n ≤ length memory → n ≤ 1048576 → k ≤ room (held_in n memory) → (n + k ≤ length memory) × (n + k ≤ 1048576)
   unfolding room
@@ -77,3 +85,6 @@ module _ {X : Type 0} {start : Held X} {all : List X} {at : Held X} where
 
   pub last_of : {Y : Type 0} (F : List Y → List X) (ys : List Y) (i : ℕ) → length ys ≤ i → Growing start all at (F (drop i ys)) → Growing start all at (F [])
   last_of F ys i h b = subst (λ l. Growing start all at (F l)) (drop_all i ys h) b
+
+pub few_used : {X : Type 0} (s : SliceVec X) → length (held s).used ≤ 1048576
+few_used s = let few = s.few in simp length-take (omega arith)

@@ -1,3 +1,8 @@
+pub mod Arcs
+pub mod Circling
 pub mod Corners
 pub mod Extending
 pub mod Growing
+pub mod Loops
+pub mod Turning
+mod Retold

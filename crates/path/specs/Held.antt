@@ -1,7 +1,7 @@
 -- A list in lent memory: what is in use, and the rest of the memory as it stands.
-use Rattle.std.specs.Prelude.{ℕ, ◌-◌, min, List, [], ◌++◌, length, take, drop}
-use Rattle.path.specs.declared.path.Path.{Path}
+use Rattle.std.specs.Prelude.{ℕ, ◌-◌, min, List, [], ◌∷◌, ◌++◌, length, take, drop}
 use Rattle.path.specs.declared.point.PathPoint.{PathPoint}
+use Rattle.path.specs.declared.slice_vec.SliceVec.{SliceVec}
 
 pub record Held (X : Type 0) : Type 0 where
   pub used : List X
@@ -30,5 +30,9 @@ rewritten h xs = record { used = xs; unused = h.unused }
 unfoldable pub room : {X : Type 0} → Held X → ℕ
 room h = min (1048576 - length h.used) (length h.unused)
 
-abbrev pub path_state : Path → Held PathPoint
-path_state p = held_in p.len p.points.now
+abbrev pub held : {X : Type 0} → SliceVec X → Held X
+held s = held_in s.len s.items.now
+
+-- of a path
+abbrev pub path_state : SliceVec PathPoint → Held PathPoint
+path_state p = held_in p.len p.items.now

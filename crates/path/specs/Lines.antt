@@ -1,4 +1,4 @@
--- The path points of open lines.
+-- The path points of open lines and of loops.
 use Rattle.std.specs.Prelude.{ℕ, Bool, cond, ◌&&◌, List, [], ◌∷◌, ◌++◌, from_bits}
 use Rattle.std.specs.Float.{binary32}
 use Rattle.std.specs.Float.Ieee.{lt, eq}
@@ -8,6 +8,7 @@ use Rattle.emath.specs.declared.plane.Vec2.{Vec2}
 use Rattle.path.specs.declared.point.PathPoint.{PathPoint}
 use Rattle.path.specs.declared.line.Corner.{Corner}
 use Rattle.path.specs.declared.line.Corner.TheVariants.{Mitre, Cut}
+use Rattle.path.specs.declared.line.Bend.{Bend}
 use Rattle.path.specs.declared.line.Turn.{Turn}
 
 abbrev pub point : Pos2 → Vec2 → PathPoint
@@ -35,7 +36,7 @@ scaled n = plane.over n (plane.length_sq n)
 
 -- a corner sharper than a right angle: length_sq below 0.5
 abbrev pub is_sharp : Vec2 → Bool
-is_sharp middle = lt (plane.length_sq middle) (from_bits binary32 0x3_f00_0000)
+is_sharp middle = lt (plane.length_sq middle) (from_bits binary32 0x3F00_0000)
 
 -- such a corner is cut off
 abbrev pub corner_at : Vec2 → Vec2 → Vec2 → Corner
@@ -57,6 +58,12 @@ corner_count (Cut n m) = 2
 abbrev pub turn_of : Vec2 → Vec2 → Turn
 turn_of n m = record { corner = corner_of (before n m) (after n m); normal = after n m }
 
+-- the same at a corner of a loop, which is never cut off
+abbrev pub bend_of : Vec2 → Vec2 → Bend
+bend_of n m = record { mitre = scaled (half_sum (before n m) (after n m)); normal = after n m }
+
+-- ---- open lines
+
 -- The points of an open line from p on. The edge that reaches p has the normal `edge`, and n is the one that its corner takes for it.
 abbrev pub open_corners : Vec2 → Vec2 → Pos2 → List Pos2 → List PathPoint
 open_corners n edge p [] = point p edge ∷ []
@@ -67,3 +74,18 @@ abbrev pub open_points : List Pos2 → List PathPoint
 open_points [] = []
 open_points (p ∷ []) = []
 open_points (p ∷ q ∷ qs) = let m = edge_normal p q in point p m ∷ open_corners m m q qs
+
+-- ---- loops
+
+-- The points of a loop from p on, which an edge with the normal n reaches. `closing` is the normal of the edge from the last place to the first.
+abbrev pub loop_corners : Vec2 → Vec2 → Pos2 → List Pos2 → List PathPoint
+loop_corners closing n p [] = point p (bend_of n closing).mitre ∷ []
+loop_corners closing n p (q ∷ qs) = let b = bend_of n (edge_normal p q) in point p b.mitre ∷ loop_corners closing b.normal q qs
+
+abbrev pub last_of : Pos2 → List Pos2 → Pos2
+last_of p [] = p
+last_of p (q ∷ qs) = last_of q qs
+
+abbrev pub loop_points : List Pos2 → List PathPoint
+loop_points [] = []
+loop_points (p ∷ qs) = let closing = edge_normal (last_of p qs) p in loop_corners closing closing p qs

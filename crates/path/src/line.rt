@@ -18,6 +18,13 @@ pub(crate) struct Turn {
     pub(crate) normal: Vec2,
 }
 
+/// A corner of a loop, which is never cut off, and the normal that the edge after it is taken to have.
+#[derive(Clone, Copy)]
+pub(crate) struct Bend {
+    pub(crate) mitre: Vec2,
+    pub(crate) normal: Vec2,
+}
+
 fn is_zero(v: Vec2) -> bool
     ensures { result ≡ lines.is_zero v }
 {
@@ -76,6 +83,16 @@ pub(crate) fn turn_between(n0: Vec2, n1: Vec2) -> Turn
     let (n0, n1) = meeting(n0, n1);
     Turn {
         corner: corner_between(n0, n1),
+        normal: n1,
+    }
+}
+
+pub(crate) fn bend_between(n0: Vec2, n1: Vec2) -> Bend
+    ensures { result ≡ lines.bend_of n0 n1 }
+{
+    let (n0, n1) = meeting(n0, n1);
+    Bend {
+        mitre: scaled(half_sum(n0, n1)),
         normal: n1,
     }
 }

@@ -11,9 +11,10 @@ use Rattle.ecolor.specs.Colors.{is_transparent}
 use Rattle.ecolor.specs.declared.color.Color32.{Color32}
 use Rattle.ecolor.specs.declared.vertex.Vertex.{Vertex}
 use Rattle.tessellator.specs.Brushes.{plain, textured}
-use Rattle.tessellator.specs.Fills.{hard_fill_rows, feathered_fill_rows, is_unfilled, filled_with, fill_figure, textured_figure}
+use Rattle.tessellator.specs.Fills.{hard_fill_rows, feathered_fill_rows}
+use Rattle.tessellator.specs.BrushedFills.{is_unfilled, filled_with, fill_figure, textured_figure}
 use Rattle.tessellator.specs.Outcome.{Figure, nothing, triangles_of}
-use Rattle.tessellator.specs.Rows.{row_vertices}
+use Rattle.tessellator.specs.BrushedRows.{row_vertices}
 use Rattle.tessellator.specs.declared.row.Paint.{Paint}
 use Rattle.tessellator.specs.declared.row.Row.{Row}
 use Rattle.promise.specs.Grown.{Look, fill_look}

@@ -13,11 +13,13 @@ use Rattle.ecolor.specs.Colors.{is_transparent, transparent}
 use Rattle.ecolor.specs.declared.color.Color32.{Color32}
 use Rattle.ecolor.specs.declared.vertex.Vertex.{Vertex}
 use Rattle.tessellator.specs.Brushes.{colored, plain}
-use Rattle.tessellator.specs.Fills.{is_unfilled, hard_fill_rows, fill_figure}
+use Rattle.tessellator.specs.BrushedFills.{is_unfilled, fill_figure}
+use Rattle.tessellator.specs.Fills.{hard_fill_rows}
 use Rattle.tessellator.specs.Kinds.{rows, vertex_count, fewest}
 use Rattle.tessellator.specs.Outcome.{Figure}
-use Rattle.tessellator.specs.Rows.{vertex_of, row_vertices}
-use Rattle.tessellator.specs.Strokes.{Pen, fill_of, filled_kind, kind_of, faced, centred, shrunk, middle_of, is_clear, core_between, thick_rows, end_rows, thin_rows, hard_rows, swollen, thick_line, thick_vertices, inset, stroke_with, style_of, stroke_figure}
+use Rattle.tessellator.specs.BrushedRows.{vertex_of, row_vertices}
+use Rattle.tessellator.specs.Strokes.{Pen, fill_of, filled_kind, kind_of, centred, shrunk, is_clear, core_between, thick_rows, end_rows, thin_rows, hard_rows, style_of}
+use Rattle.tessellator.specs.BrushedStrokes.{faced, middle_of, swollen, thick_line, thick_vertices, inset, stroke_with, stroke_figure}
 use Rattle.tessellator.specs.declared.kind.Kind.{Kind}
 use Rattle.tessellator.specs.declared.kind.Kind.TheVariants.{Loop, Filled}
 use Rattle.tessellator.specs.declared.row.Paint.{Paint}

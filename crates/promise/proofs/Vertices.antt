@@ -8,7 +8,7 @@ use Rattle.path.specs.Turns.{no_point}
 use Rattle.path.specs.declared.point.PathPoint.{PathPoint}
 use Rattle.path.specs.declared.point.Side.TheVariants.{Along}
 use Rattle.ecolor.specs.declared.vertex.Vertex.{Vertex}
-use Rattle.tessellator.specs.Rows.{vertex_of, vertices_at, row_vertices}
+use Rattle.tessellator.specs.BrushedRows.{vertex_of, vertices_at, row_vertices}
 use Rattle.tessellator.specs.declared.row.Paint.{Paint}
 use Rattle.tessellator.specs.declared.row.Paint.TheVariants.{Core}
 use Rattle.tessellator.specs.declared.row.Row.{Row}

@@ -11,10 +11,11 @@ use Rattle.ecolor.specs.declared.color.Color32.{Color32}
 use Rattle.ecolor.specs.declared.vertex.TextureId.{TextureId}
 use Rattle.ecolor.specs.declared.vertex.Vertex.{Vertex}
 use Rattle.tessellator.specs.Boxes.{stroke_box}
-use Rattle.tessellator.specs.Fills.{fill_allowed, fill_figure, textured_figure}
+use Rattle.tessellator.specs.BrushedFills.{fill_allowed, fill_figure, textured_figure}
 use Rattle.tessellator.specs.Outcome.{Figure, outcome, textured_outcome, joining}
 use Rattle.tessellator.specs.State.{MeshState, empty_mesh}
-use Rattle.tessellator.specs.Strokes.{Pen, middle_of, stroke_figure, stroke_outcome}
+use Rattle.tessellator.specs.Strokes.{Pen}
+use Rattle.tessellator.specs.BrushedStrokes.{middle_of, stroke_figure, stroke_outcome}
 use Rattle.tessellator.specs.declared.fault.Appended.{Appended}
 use Rattle.tessellator.specs.declared.stroke.Course.{Course}
 use Rattle.tessellator.specs.declared.stroke.StrokeKind.{StrokeKind}

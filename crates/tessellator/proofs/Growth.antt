@@ -1,15 +1,12 @@
 -- One growth after another is a growth by both lists, and takes their room.
-use Rattle.std.proofs.Common.{◌≡◌, ℕ, zero, suc, ◌+◌, ◌-◌, ◌*◌, ◌≤◌, List, [], ◌∷◌, ◌++◌, length, sym, refl, ap, ◌∙◌, append_assoc, suc-mul, zero-mul, add-one, arith, length-append, length-drop}
+use Rattle.std.proofs.Common.{◌≡◌, ℕ, zero, suc, ◌+◌, ◌-◌, ◌*◌, ◌≤◌, min, List, [], ◌∷◌, ◌++◌, length, drop, sym, refl, ap, ◌∙◌, append_assoc, suc-mul, zero-mul, add-one, arith, length-append, length-drop}
 use mathlib.Core.List.{map-append}
 use Rattle.std.proofs.lemmas.List.{append-nil, drop-drop}
 use Rattle.tessellator.specs.Kinds.{each, cell, band, bands}
 use Rattle.tessellator.specs.State.{MeshState, appended, with_vertices, with_triangles, vertex_room, index_room}
 use Rattle.tessellator.specs.Triangles.{Triangle, tri, flat, raise, raised}
 use Rattle.ecolor.specs.declared.vertex.Vertex.{Vertex}
-
-flat_append : (ts us : List Triangle) → flat (ts ++ us) ≡ flat ts ++ flat us
-flat_append [] us = refl
-flat_append (tri x y z ∷ ts) us = ap (λ l. x ∷ y ∷ z ∷ l) (flat_append ts us)
+use Rattle.tessellator.proofs.Triples.{flat_append, length-flat}
 
 raised_append : (b : ℕ) (ts us : List Triangle) → raised b (ts ++ us) ≡ raised b ts ++ raised b us
 raised_append b ts us = map-append (raise b) ts us
@@ -46,10 +43,6 @@ module _ (m m₁ : MeshState) (xs : List Vertex) (e : m₁ ≡ with_vertices m x
 pub triangles_none : (base : ℕ) (m : MeshState) → m ≡ with_triangles base m []
 unfolding with_triangles
 triangles_none base m = simp append-nil
-
-pub length-flat : (ts : List Triangle) → length (flat ts) ≡ 3 * length ts
-length-flat [] = refl
-length-flat (tri x y z ∷ ts) = let e = length-flat ts in omega arith
 
 pub length-raised : (b : ℕ) (ts : List Triangle) → length (raised b ts) ≡ length ts
 length-raised b [] = refl
@@ -97,3 +90,8 @@ length-bands R (suc m) =
     let h = length-band R m (m + 1) in
     let a = length-append (bands R m) (band R m (m + 1)) in
     rw suc-mul (omega arith)
+
+pub one_and_rest : (n k : ℕ) → 1 ≤ n → n * k ≡ k + (n - 1) * k
+one_and_rest n k h =
+    let e : n ≡ suc (n - 1) = omega arith in
+    ap (λ x. x * k) e ∙ omega (arith, suc-mul (n - 1) k)

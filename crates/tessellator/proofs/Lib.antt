@@ -1,6 +1,13 @@
 pub mod Answered
+pub mod Appending
+pub mod Counts
+pub mod Drawn
 pub mod Growth
+pub mod Hardly
 pub mod Joining
-pub mod Lined
-pub mod Opened
+pub mod Shapes
+pub mod Stroked
+pub mod Textured
+pub mod Thick
+pub mod Triples
 pub mod Writes

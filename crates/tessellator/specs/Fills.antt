@@ -4,19 +4,19 @@ use Rattle.std.specs.Float.{binary32}
 use Rattle.std.specs.Float.Ieee.{mul, lt}
 use Rattle.emath.specs.Plane as plane
 use Rattle.emath.specs.declared.plane.Pos2.{Pos2}
+use Rattle.path.specs.Turns.{turned}
 use Rattle.path.specs.declared.point.PathPoint.{PathPoint}
 use Rattle.path.specs.declared.point.Side.TheVariants.{Outward, Along, Inward}
 use Rattle.ecolor.specs.Colors.{is_transparent, transparent}
-use Rattle.tessellator.specs.Kinds.{hard_fill_kind, feathered_fill_kind}
 use Rattle.tessellator.specs.Outcome.{Figure, nothing, shaped}
 use Rattle.tessellator.specs.Rows.{row_vertices}
-use Rattle.tessellator.specs.Turns.{turned}
 use Rattle.ecolor.specs.declared.color.Color32.{Color32}
+use Rattle.tessellator.specs.declared.kind.Kind.TheVariants.{HardFill, FeatheredFill}
 use Rattle.tessellator.specs.declared.row.Paint.TheVariants.{Flat}
 use Rattle.tessellator.specs.declared.row.Row.{Row}
 
 abbrev pub half : Float → Float
-half x = mul binary32 (from_bits binary32 0x3_f00_0000) x
+half x = mul binary32 (from_bits binary32 0x3F00_0000) x
 
 abbrev pub everywhere : Color32 → Pos2 → Color32
 everywhere color place = color
@@ -25,7 +25,7 @@ abbrev pub hard_fill_rows : Color32 → List Row
 hard_fill_rows color = record { side = Along; paint = Flat color } ∷ []
 
 abbrev pub hard_fill : Color32 → List PathPoint → Figure
-hard_fill color points = shaped hard_fill_kind points (row_vertices (everywhere color) (hard_fill_rows color) points)
+hard_fill color points = shaped HardFill points (row_vertices (everywhere color) (hard_fill_rows color) points)
 
 abbrev pub feathered_fill_rows : Float → Color32 → List Row
 feathered_fill_rows feathering color =
@@ -34,7 +34,7 @@ feathered_fill_rows feathering color =
 
 -- of points that run clockwise
 abbrev pub feathered_fill : Float → Color32 → List PathPoint → Figure
-feathered_fill feathering color points = shaped feathered_fill_kind points (row_vertices (everywhere color) (feathered_fill_rows feathering color) points)
+feathered_fill feathering color points = shaped FeatheredFill points (row_vertices (everywhere color) (feathered_fill_rows feathering color) points)
 
 -- a transparent fill and one of fewer than three points append nothing
 abbrev pub is_unfilled : Color32 → List PathPoint → Bool

@@ -2,6 +2,8 @@
 -- A figure gives each of its points the same number of rows; the vertex of point i in row r of R rows has the number R * i + r.
 use Rattle.std.specs.Prelude.{ℕ, zero, suc, ◌+◌, ◌-◌, ◌*◌, List, [], ◌∷◌, ◌++◌}
 use Rattle.tessellator.specs.Triangles.{Triangle, tri, raised}
+use Rattle.tessellator.specs.declared.kind.Kind.{Kind}
+use Rattle.tessellator.specs.declared.kind.Kind.TheVariants.{Nothing, HardFill, FeatheredFill, Line, Loop, Filled}
 use Rattle.tessellator.specs.declared.stroke.Style.{Style}
 use Rattle.tessellator.specs.declared.stroke.Style.TheVariants.{Hard, Thin, Thick}
 
@@ -45,33 +47,68 @@ polygon n = each (n - 2) (λ i. tri 0 (i + 1) (i + 2) ∷ [])
 abbrev pub skirt : ℕ → ℕ → List Triangle
 skirt i j = tri (2 * j) (2 * i) (2 * i + 1) ∷ tri (2 * i + 1) (2 * j + 1) (2 * j) ∷ []
 
+abbrev pub skirts : ℕ → List Triangle
+skirts n = each (n - 1) (λ i. skirt i (i + 1))
+
 abbrev pub plank : ℕ → ℕ → List Triangle
 plank i j = tri (2 * i) (2 * i + 1) (2 * j) ∷ tri (2 * j) (2 * i + 1) (2 * j + 1) ∷ []
 
 abbrev pub planks : ℕ → List Triangle
 planks n = each (n - 1) (λ i. plank i (i + 1))
 
--- A hard stroke that is filled has the vertices of its fill after its own.
-pub data Kind : Type 0 where
-  nothing hard_fill_kind feathered_fill_kind : Kind
-  line loop filled : Style → Kind
-
 abbrev pub rows : Style → ℕ
 rows Hard = 2
 rows Thin = 3
 rows Thick = 4
 
--- the triangles of a figure of n points, by its vertices' numbers within it
+-- The triangles of a figure of n points, by its vertices' numbers within it
 abbrev pub triangles : Kind → ℕ → List Triangle
-triangles nothing n = []
-triangles hard_fill_kind n = polygon n
-triangles feathered_fill_kind n = fan 2 0 n ++ (skirt (n - 1) 0 ++ each (n - 1) (λ i. skirt i (i + 1)))
-triangles (line Hard) n = planks n
-triangles (line Thin) n = bands 3 (n - 1)
-triangles (line Thick) n = cap 0 ++ (bands 4 (n - 1) ++ cap (n - 1))
-triangles (loop Hard) n = planks n ++ plank (n - 1) 0
-triangles (loop Thin) n = ring 3 n
-triangles (loop Thick) n = ring 4 n
-triangles (filled Hard) n = (planks n ++ plank (n - 1) 0) ++ raised (2 * n) (polygon n)
-triangles (filled Thin) n = ring 3 n ++ fan 3 2 n
-triangles (filled Thick) n = ring 4 n ++ fan 4 3 n
+triangles Nothing n = []
+triangles HardFill n = polygon n
+triangles FeatheredFill n = fan 2 0 n ++ (skirt (n - 1) 0 ++ skirts n)
+triangles (Line Hard) n = planks n
+triangles (Line Thin) n = bands 3 (n - 1)
+triangles (Line Thick) n = cap 0 ++ (bands 4 (n - 1) ++ cap (n - 1))
+triangles (Loop Hard) n = planks n ++ plank (n - 1) 0
+triangles (Loop Thin) n = ring 3 n
+triangles (Loop Thick) n = ring 4 n
+triangles (Filled Hard) n = (planks n ++ plank (n - 1) 0) ++ raised (2 * n) (polygon n)
+triangles (Filled Thin) n = ring 3 n ++ fan 3 2 n
+triangles (Filled Thick) n = ring 4 n ++ fan 4 3 n
+
+-- How many vertices it has. A hard stroke that is filled has the vertices of its fill after its own.
+abbrev pub vertex_count : Kind → ℕ → ℕ
+vertex_count Nothing n = 0
+vertex_count HardFill n = n
+vertex_count FeatheredFill n = 2 * n
+vertex_count (Line s) n = rows s * n
+vertex_count (Loop s) n = rows s * n
+vertex_count (Filled Hard) n = 2 * n + n
+vertex_count (Filled Thin) n = 3 * n
+vertex_count (Filled Thick) n = 4 * n
+
+-- and how many indices, three to a triangle
+abbrev pub index_count : Kind → ℕ → ℕ
+index_count Nothing n = 0
+index_count HardFill n = 3 * (n - 2)
+index_count FeatheredFill n = 3 * (n - 2) + 6 * n
+index_count (Line Hard) n = 6 * (n - 1)
+index_count (Line Thin) n = 12 * (n - 1)
+index_count (Line Thick) n = 18 * (n - 1) + 12
+index_count (Loop Hard) n = 6 * n
+index_count (Loop Thin) n = 12 * n
+index_count (Loop Thick) n = 18 * n
+index_count (Filled Hard) n = 6 * n + 3 * (n - 2)
+index_count (Filled Thin) n = 12 * n + 3 * (n - 2)
+index_count (Filled Thick) n = 18 * n + 3 * (n - 2)
+
+-- The fewest points that it is drawn from. A hard stroke of two points has no fill, so it is a loop.
+abbrev pub fewest : Kind → ℕ
+fewest Nothing = 0
+fewest HardFill = 3
+fewest FeatheredFill = 3
+fewest (Line s) = 2
+fewest (Loop s) = 2
+fewest (Filled Hard) = 3
+fewest (Filled Thin) = 2
+fewest (Filled Thick) = 2

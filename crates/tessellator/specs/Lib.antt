@@ -1,4 +1,8 @@
 pub mod Boxes
+pub mod BrushedFills
+pub mod BrushedRows
+pub mod BrushedStrokes
+pub mod Brushes
 pub mod Faults
 pub mod Fills
 pub mod Kinds
@@ -7,4 +11,3 @@ pub mod Rows
 pub mod State
 pub mod Strokes
 pub mod Triangles
-pub mod Turns

@@ -1,19 +1,25 @@
 -- What any draw leaves, from the figure that it stands for.
-use Rattle.std.specs.Prelude.{◌≡◌, ◌+◌, ◌*◌, ◌≤◌, Bool, true, cond, ◌||◌, List, [], length, take, drop, Some, None, Ok, Err, Option, Result, ◌==◌, nat_le}
+use Rattle.std.specs.Prelude.{◌≡◌, ℕ, ◌+◌, ◌*◌, ◌≤◌, Bool, true, cond, ◌&&◌, ◌||◌, List, [], ◌∷◌, length, take, drop, Some, None, Ok, Err, Option, Result, ◌==◌, nat_le, nat_lt}
 use Rattle.emath.specs.Answers as Answers
 use Rattle.emath.specs.Answers.{Answer}
-use Rattle.path.specs.Held.{Held, path_state, rewritten}
-use Rattle.path.specs.declared.path.Path.{Path}
+use Rattle.emath.specs.Limits.{is_place}
+use Rattle.emath.specs.declared.plane.Pos2.{Pos2}
+use Rattle.path.specs.Held.{Held, held, rewritten}
+use Rattle.path.specs.declared.slice_vec.SliceVec.{SliceVec}
 use Rattle.path.specs.declared.point.PathPoint.{PathPoint}
 use Rattle.tessellator.specs.Faults.{told}
-use Rattle.tessellator.specs.Kinds as Kinds
-use Rattle.tessellator.specs.Kinds.{Kind, triangles}
-use Rattle.tessellator.specs.State.{MeshState, mesh_state, appended, vertex_room, index_room}
-use Rattle.tessellator.specs.Triangles.{Triangle}
-use Rattle.ecolor.specs.Vertices.{is_default}
+use Rattle.tessellator.specs.Kinds.{triangles, vertex_count, index_count}
+use Rattle.tessellator.specs.State.{MeshState, mesh_state, is_empty, appended, joined, with_vertices, with_triangles, with_texture, vertex_room, index_room}
+use Rattle.tessellator.specs.Triangles.{Triangle, tri}
+use Rattle.ecolor.specs.Vertices.{is_default, same_texture, untextured}
+use Rattle.ecolor.specs.Colors.{is_transparent}
+use Rattle.ecolor.specs.declared.color.Color32.{Color32}
+use Rattle.ecolor.specs.declared.vertex.TextureId.{TextureId}
 use Rattle.tessellator.specs.declared.fault.Appended.{Appended}
 use Rattle.tessellator.specs.declared.fault.FigureFault.{FigureFault}
-use Rattle.tessellator.specs.declared.fault.FigureFault.TheVariants.{OutOfLimits, OtherTexture, NoVertexSpace, NoIndexSpace}
+use Rattle.tessellator.specs.declared.fault.FigureFault.TheVariants.{OutOfLimits, TooFewPoints, NoVertex, OtherTexture, NoVertexSpace, NoIndexSpace}
+use Rattle.tessellator.specs.declared.kind.Kind.{Kind}
+use Rattle.tessellator.specs.declared.kind.Kind.TheVariants.{Nothing}
 use Rattle.tessellator.specs.declared.mesh.Mesh.{Mesh}
 use Rattle.ecolor.specs.declared.vertex.Vertex.{Vertex}
 
@@ -31,7 +37,7 @@ abbrev pub shaped : Kind → List PathPoint → List Vertex → Figure
 shaped kind points vertices = record { points = points; vertices = vertices; kind = kind }
 
 abbrev pub nothing : List PathPoint → Figure
-nothing points = shaped Kinds.nothing points []
+nothing points = shaped Nothing points []
 
 abbrev pub size_of : Figure → Appended
 size_of figure = record { vertices = length figure.vertices; indices = 3 * length (triangles_of figure) }
@@ -42,8 +48,8 @@ pub record Outcome : Type 0 where
   pub mesh : MeshState
 
 -- what a draw answers and leaves, as seen from outside
-abbrev pub after : Result Appended FigureFault → Path → Mesh → Outcome
-after r path mesh = record { answer = told r; path = path_state path; mesh = mesh_state mesh }
+abbrev pub after : Result Appended FigureFault → SliceVec PathPoint → Mesh → Outcome
+after r path mesh = record { answer = told r; path = held path; mesh = mesh_state mesh }
 
 -- a refusal leaves path and mesh as they were
 abbrev pub refused : FigureFault → Held PathPoint → MeshState → Outcome
@@ -72,6 +78,15 @@ refusal_of size mesh =
     (Some NoVertexSpace))
     (Some OtherTexture)
 
+-- the same of space alone
+abbrev pub space_refusal : Appended → MeshState → Option FigureFault
+space_refusal size mesh = cond (nat_le size.vertices (vertex_room mesh)) (cond (nat_le size.indices (index_room mesh)) None (Some NoIndexSpace)) (Some NoVertexSpace)
+
+-- there is space for a figure of this kind and of n points
+pub record KindFits (kind : Kind) (n : ℕ) (mesh : MeshState) : Type 0 where
+  pub vertices : vertex_count kind n ≤ vertex_room mesh
+  pub indices : index_count kind n ≤ index_room mesh
+
 pub record Fits (figure : Figure) (mesh : MeshState) : Type 0 where
   pub vertices : length figure.vertices ≤ vertex_room mesh
   pub indices : 3 * length (triangles_of figure) ≤ index_room mesh
@@ -87,6 +102,61 @@ outcome allowed figure path mesh = cond allowed (settled (refusal_of (size_of fi
 -- what sizing answers
 abbrev pub sizing : Bool → Figure → Answer Appended
 sizing allowed figure = cond allowed (told (Ok (size_of figure))) (told (Err OutOfLimits))
+
+-- ---- textured fills
+
+-- Why a mesh with a texture of its own, unless it is empty, cannot take so many vertices and indices.
+abbrev pub refusal_under : TextureId → Appended → MeshState → Option FigureFault
+refusal_under texture size mesh = cond (is_empty mesh || same_texture mesh.texture texture) (space_refusal size mesh) (Some OtherTexture)
+
+-- an empty mesh takes the texture
+abbrev pub textured_settled : Option FigureFault → TextureId → Figure → Held PathPoint → MeshState → Outcome
+textured_settled None texture figure path mesh =
+    record { answer = told (Ok (size_of figure)); path = path_after figure path; mesh = mesh_after figure (with_texture mesh texture) }
+textured_settled (Some fault) texture figure path mesh = refused fault path mesh
+
+-- Nothing at all is done of a transparent fill, and one of fewer than three points is refused.
+abbrev pub textured_outcome : Bool → Color32 → TextureId → Figure → Held PathPoint → MeshState → Outcome
+textured_outcome allowed color texture figure path mesh =
+    cond allowed
+    (cond (is_transparent color)
+    (record { answer = told (Ok (size_of (nothing path.used))); path = path; mesh = mesh })
+    (textured_settled (cond (nat_lt (length path.used) 3) (Some TooFewPoints) (refusal_under texture (size_of figure) mesh)) texture figure path mesh))
+    (refused OutOfLimits path mesh)
+
+-- ---- appending another mesh
+
+pub record Joining : Type 0 where
+  pub answer : Answer (Unit {0})
+  pub mesh : MeshState
+
+-- it becomes what it would be, unless it refuses
+abbrev pub joined_as : Option FigureFault → MeshState → MeshState → Joining
+joined_as None after before = record { answer = told (Ok tt); mesh = after }
+joined_as (Some fault) after before = record { answer = told (Err fault); mesh = before }
+
+abbrev pub joining : MeshState → MeshState → Joining
+joining other mesh =
+    joined_as (refusal_under other.texture (record { vertices = length other.vertices; indices = length other.indices }) mesh) (joined other mesh) mesh
+
+abbrev pub joined_after : Result (Unit {0}) FigureFault → Mesh → Joining
+joined_after r mesh = record { answer = told r; mesh = mesh_state mesh }
+
+-- ---- a single vertex, a single triangle
+
+abbrev pub one_vertex : Pos2 → Color32 → MeshState → Joining
+one_vertex pos color mesh =
+    cond (is_place pos)
+    (joined_as (refusal_of (record { vertices = 1; indices = 0 }) mesh) (with_vertices mesh (untextured pos color ∷ [])) mesh)
+    (record { answer = told (Err OutOfLimits); mesh = mesh })
+
+-- an index that names no vertex is refused before the space is asked for
+abbrev pub one_triangle : ℕ → ℕ → ℕ → MeshState → Joining
+one_triangle a b c mesh =
+    let n = length mesh.vertices in
+    cond (nat_lt a n && (nat_lt b n && nat_lt c n))
+    (cond (nat_le 3 (index_room mesh)) (record { answer = told (Ok tt); mesh = with_triangles 0 mesh (tri a b c ∷ []) }) (record { answer = told (Err NoIndexSpace); mesh = mesh }))
+    (record { answer = told (Err NoVertex); mesh = mesh })
 
 -- ---- what every draw keeps to
 

@@ -1,5 +1,5 @@
 -- What a mesh holds: what is in use, and the rest of the lent memory as it stands.
-use Rattle.std.specs.Prelude.{ℕ, ◌-◌, ◌*◌, min, List, [], ◌++◌, length, take, drop}
+use Rattle.std.specs.Prelude.{ℕ, ◌+◌, ◌-◌, ◌*◌, min, Bool, List, [], ◌++◌, map, length, take, drop, ◌==◌}
 use Rattle.tessellator.specs.Triangles.{Triangle, flat, raised}
 use Rattle.tessellator.specs.declared.finished.Finished.{Finished}
 use Rattle.tessellator.specs.declared.mesh.Mesh.{Mesh}
@@ -62,3 +62,26 @@ vertex_room m = min (16777216 - length m.vertices) (length m.unused_vertices)
 
 unfoldable pub index_room : MeshState → ℕ
 index_room m = min (100663296 - length m.indices) (length m.unused_indices)
+
+-- A mesh without vertices is empty. (It then has no triangles, since each index names a vertex.)
+abbrev pub is_empty : MeshState → Bool
+is_empty m = length m.vertices == 0
+
+unfoldable pub with_texture : MeshState → TextureId → MeshState
+with_texture m texture = record {
+  vertices = m.vertices;
+  unused_vertices = m.unused_vertices;
+  indices = m.indices;
+  unused_indices = m.unused_indices;
+  texture = texture;
+}
+
+-- behind what the mesh has, all that another has, its indices raised by the old vertex count; and its texture
+unfoldable pub joined : MeshState → MeshState → MeshState
+joined other m = record {
+  vertices = m.vertices ++ other.vertices;
+  unused_vertices = drop (length other.vertices) m.unused_vertices;
+  indices = m.indices ++ map (λ i. length m.vertices + i) other.indices;
+  unused_indices = drop (length other.indices) m.unused_indices;
+  texture = other.texture;
+}

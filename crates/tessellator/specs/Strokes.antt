@@ -9,21 +9,25 @@ use Rattle.emath.specs.declared.plane.Pos2.{Pos2}
 use Rattle.emath.specs.declared.rect.Rect.{Rect}
 use Rattle.path.specs.Held.{Held}
 use Rattle.path.specs.Points.{moved}
+use Rattle.path.specs.Turns.{turned}
 use Rattle.path.specs.declared.point.PathPoint.{PathPoint}
 use Rattle.path.specs.declared.point.Side.{Side}
 use Rattle.path.specs.declared.point.Side.TheVariants.{Outward, Along, Inward, OutwardPast, InwardPast}
 use Rattle.tessellator.specs.Boxes.{stroke_box}
 use Rattle.ecolor.specs.Colors.{transparent, is_transparent}
 use Rattle.tessellator.specs.Fills.{fill_figure, half}
-use Rattle.tessellator.specs.Kinds.{Kind, line, loop, filled, rows}
+use Rattle.tessellator.specs.Kinds.{rows}
 use Rattle.tessellator.specs.Outcome.{Figure, Outcome, nothing, shaped, outcome, sizing}
 use Rattle.tessellator.specs.Rows.{row_vertices}
 use Rattle.tessellator.specs.State.{MeshState, vertex_room, index_room}
-use Rattle.tessellator.specs.Turns.{turned}
 use Rattle.ecolor.specs.declared.color.Color32.{Color32}
 use Rattle.tessellator.specs.declared.fault.Appended.{Appended}
+use Rattle.tessellator.specs.declared.kind.Kind.{Kind}
+use Rattle.tessellator.specs.declared.kind.Kind.TheVariants.{Line, Loop, Filled}
 use Rattle.tessellator.specs.declared.row.Paint.TheVariants.{Flat, Core, Faded}
 use Rattle.tessellator.specs.declared.row.Row.{Row}
+use Rattle.tessellator.specs.declared.stroke.Course.{Course}
+use Rattle.tessellator.specs.declared.stroke.Course.TheVariants.{Unjoined, Around}
 use Rattle.tessellator.specs.declared.stroke.PathStroke.{PathStroke}
 use Rattle.tessellator.specs.declared.stroke.StrokeKind.{StrokeKind}
 use Rattle.tessellator.specs.declared.stroke.StrokeKind.TheVariants.{Inside, Middle, Outside}
@@ -70,32 +74,27 @@ hard_rows width =
 -- without feathering hard, else thin up to 0.9 of the feathering
 abbrev pub style_of : Float → Float → Style
 style_of feathering width =
-    cond (lt plane.zero feathering) (cond (le width (mul binary32 (from_bits binary32 0x3_f66_6666) feathering)) Thin Thick) Hard
+    cond (lt plane.zero feathering) (cond (le width (mul binary32 (from_bits binary32 0x3F66_6666) feathering)) Thin Thick) Hard
 
 -- ---- what a stroke is drawn with
 
--- a line whose ends are not joined, or a loop around a fill, which is transparent where there is none
-pub data Course : Type 0 where
-  unjoined : Course
-  around : Color32 → Course
-
 abbrev pub fill_of : Course → Color32
-fill_of unjoined = transparent
-fill_of (around fill) = fill
+fill_of Unjoined = transparent
+fill_of (Around fill) = fill
 
 abbrev pub is_loop : Course → Bool
-is_loop unjoined = false
-is_loop (around fill) = true
+is_loop Unjoined = false
+is_loop (Around fill) = true
 
 -- a hard stroke of two points has no fill within
 abbrev pub filled_kind : Style → ℕ → Kind
-filled_kind Hard n = cond (nat_lt n 3) (loop Hard) (filled Hard)
-filled_kind Thin n = filled Thin
-filled_kind Thick n = filled Thick
+filled_kind Hard n = cond (nat_lt n 3) (Loop Hard) (Filled Hard)
+filled_kind Thin n = Filled Thin
+filled_kind Thick n = Filled Thick
 
 abbrev pub kind_of : Style → Course → ℕ → Kind
-kind_of style unjoined n = line style
-kind_of style (around fill) n = cond (is_transparent fill) (loop style) (filled_kind style n)
+kind_of style Unjoined n = Line style
+kind_of style (Around fill) n = cond (is_transparent fill) (Loop style) (filled_kind style n)
 
 pub record Pen : Type 0 where
   pub feathering : Float
@@ -156,9 +155,9 @@ thick_line feathering width rule points =
 
 -- an open line over points that lie in its middle
 abbrev pub line_in : Style → Float → Float → (Pos2 → Color32) → List PathPoint → Figure
-line_in Hard feathering width rule points = shaped (line Hard) points (row_vertices rule (hard_rows width) points)
-line_in Thin feathering width rule points = shaped (line Thin) points (row_vertices rule (thin_rows feathering width transparent) points)
-line_in Thick feathering width rule points = shaped (line Thick) points (thick_line feathering width rule points)
+line_in Hard feathering width rule points = shaped (Line Hard) points (row_vertices rule (hard_rows width) points)
+line_in Thin feathering width rule points = shaped (Line Thin) points (row_vertices rule (thin_rows feathering width transparent) points)
+line_in Thick feathering width rule points = shaped (Line Thick) points (thick_line feathering width rule points)
 
 -- how many indices a line of n points has
 abbrev pub line_indices : Style → ℕ → ℕ
@@ -177,8 +176,8 @@ thin_stroke pen points =
     (row_vertices (rule_on pen points) (thin_rows pen.feathering pen.width (fill_of pen.course)) (swollen pen points))
 
 abbrev pub thick_vertices : Course → Pen → (Pos2 → Color32) → List PathPoint → List Vertex
-thick_vertices unjoined pen rule points = thick_line pen.feathering pen.width rule points
-thick_vertices (around fill) pen rule points = row_vertices rule (thick_rows pen.feathering pen.width fill) points
+thick_vertices Unjoined pen rule points = thick_line pen.feathering pen.width rule points
+thick_vertices (Around fill) pen rule points = row_vertices rule (thick_rows pen.feathering pen.width fill) points
 
 abbrev pub thick_stroke : Pen → List PathPoint → Figure
 thick_stroke pen points =
@@ -189,8 +188,8 @@ abbrev pub hard_inside : Pen → List PathPoint → List PathPoint
 hard_inside pen points = cond (is_transparent (fill_of pen.course)) points (map (moved (Inward (half pen.width))) points)
 
 abbrev pub hard_vertices : Course → Pen → (Pos2 → Color32) → List PathPoint → List Vertex
-hard_vertices unjoined pen rule points = row_vertices rule (hard_rows pen.width) points
-hard_vertices (around fill) pen rule points = row_vertices rule (hard_rows pen.width) points ++ (fill_figure plane.zero fill (hard_inside pen points)).vertices
+hard_vertices Unjoined pen rule points = row_vertices rule (hard_rows pen.width) points
+hard_vertices (Around fill) pen rule points = row_vertices rule (hard_rows pen.width) points ++ (fill_figure plane.zero fill (hard_inside pen points)).vertices
 
 abbrev pub hard_stroke : Pen → List PathPoint → Figure
 hard_stroke pen points =
@@ -221,7 +220,7 @@ open_pen colour plain feathering stroke = record {
   feathering = feathering;
   width = stroke.width;
   kind = stroke.kind;
-  course = unjoined;
+  course = Unjoined;
   colour = colour stroke.color;
   plain = plain stroke.color;
 }

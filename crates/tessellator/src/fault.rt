@@ -14,12 +14,16 @@ pub struct Appended {
 pub enum FigureFault {
     /// A width, a feathering or a place is not finite or outside its limits.
     OutOfLimits,
+    /// A textured fill has fewer than three points.
+    TooFewPoints,
     /// Something would be appended, and the mesh has another texture.
     OtherTexture,
     /// There is no space for the vertices.
     NoVertexSpace,
     /// There is no space for the indices.
     NoIndexSpace,
+    /// An index of a single triangle names no vertex.
+    NoVertex,
 }
 
 impl FigureFault {
@@ -28,10 +32,12 @@ impl FigureFault {
         ensures { result ≡ number_of self }
     {
         match self {
+            FigureFault::TooFewPoints => 1,
             FigureFault::OutOfLimits => 2,
             FigureFault::NoVertexSpace => 4,
             FigureFault::NoIndexSpace => 5,
             FigureFault::OtherTexture => 6,
+            FigureFault::NoVertex => 7,
         }
     }
 }

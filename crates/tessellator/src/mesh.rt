@@ -3,8 +3,10 @@ ghost use Rattle.std.specs.Prelude.{◌≡◌, ℕ, ◌%◌, ◌<◌, ◌≤◌,
 
 use ecolor::vertex::{TextureId, Vertex};
 
+pub mod append;
 pub mod finish;
 mod grow;
+mod kinds;
 pub mod read;
 mod room;
 mod rows;

@@ -4,14 +4,14 @@ use path::point::Side;
 
 /// The colour of a row: one for all of it, or what the colour rule answers at each place, whole or faded by a factor.
 #[derive(Clone, Copy)]
-pub(crate) enum Paint {
+pub enum Paint {
     Flat(Color32),
     Core,
     Faded(f32),
 }
 
 #[derive(Clone, Copy)]
-pub(crate) struct Row {
-    pub(crate) side: Side,
-    pub(crate) paint: Paint,
+pub struct Row {
+    pub side: Side,
+    pub paint: Paint,
 }

@@ -1,5 +1,9 @@
 //! Strokes.
+use ecolor::color::Color32;
+
+pub mod calls;
 mod draw;
+mod moves;
 pub mod open;
 mod rows;
 
@@ -9,6 +13,21 @@ pub enum StrokeKind {
     Inside,
     Middle,
     Outside,
+}
+
+/// Whether a path ends, or returns to its first point.
+#[derive(Clone, Copy)]
+pub enum PathType {
+    Open,
+    Closed,
+}
+
+/// What a stroke runs along: a line whose ends are not joined, or a loop around a fill,
+/// which is transparent where there is none.
+#[derive(Clone, Copy)]
+pub enum Course {
+    Unjoined,
+    Around(Color32),
 }
 
 /// A stroke's width, its colour rule and where it lies.
@@ -21,7 +40,7 @@ pub struct PathStroke<C> {
 
 /// How a stroke is drawn: without feathering, as a faded ridge, or with feathered sides.
 #[derive(Clone, Copy)]
-pub(crate) enum Style {
+pub enum Style {
     Hard,
     Thin,
     Thick,

@@ -1,50 +1,28 @@
 //! Building paths. A builder that refuses leaves the path as it was.
-ghost use Rattle.std.specs.Prelude.{◌≡◌, ◌≤◌, [], ◌∷◌, length};
-ghost use Rattle.path.specs.Builders.{Extends, left, reserved, point_added, line_added};
+ghost use Rattle.std.specs.Prelude.{◌≡◌, ◌+◌, ◌≤◌, [], ◌∷◌, length};
+ghost use Rattle.path.specs.Adding.{change, added, one_point, whole_circle, open_line, line_loop};
+ghost use Rattle.path.specs.Builders.{Along, Extends, left, reserved, point_added, line_added};
+ghost use Rattle.path.specs.Circling.{Circled};
 ghost use Rattle.path.specs.Faults.{told};
-ghost use Rattle.path.specs.Held.{path_state, extended, room};
-ghost use Rattle.path.specs.Lines.{corner_points, open_points};
+ghost use Rattle.path.specs.Held.{held, path_state, extended, room};
+ghost use Rattle.path.specs.Laws.{Adds, At};
+ghost use Rattle.path.specs.Lines.{corner_points, edge_normal, loop_corners, open_points};
 
 use super::Path;
 use crate::fault::PathFault;
 use crate::line;
 use crate::line::Corner;
 use crate::point::PathPoint;
-use emath::limits::{all_places, is_place, is_vector};
+use circles::circle_for;
+use emath::limits::{all_places, is_distance, is_place, is_vector};
 use emath::plane::{Pos2, Vec2};
 
-const MAX_POINTS: usize = 1_048_576;
-
 impl<'a> Path<'a> {
-    /// How many more points there is space for.
-    fn space(&self) -> usize
-        ensures { result ≡ room (path_state self.now) }
-    {
-        self.points.len().min(MAX_POINTS) - self.len
-    }
-
-    /// Refuses where there is no space for so many more points.
-    fn reserve(&self, additional: usize) -> Result<(), PathFault>
-        ensures { result ≡ reserved additional (room (path_state self.now)) }
-    {
-        if additional > self.space() {
-            return Err(PathFault::NoSpace);
-        }
-        Ok(())
-    }
-
-    fn push(&mut self, point: PathPoint)
-        requires { 1 ≤ room (path_state self.old) }
-        ensures { path_state self.new ≡ extended (path_state self.old) (point ∷ []) }
-    {
-        self.points[self.len] = point;
-        self.len += 1;
-    }
-
     /// One point with its normal.
     pub fn add_point(&mut self, pos: Pos2, normal: Vec2) -> Result<(), PathFault>
         ensures outcome { left result self.new ≡ point_added pos normal (path_state self.old) }
         ensures extends { Extends (told result) (pos ∷ []) (path_state self.old) (path_state self.new) }
+        ensures adds { Adds (Along (pos ∷ [])) (one_point pos normal) result self.old self.new }
     {
         if !is_place(pos) || !is_vector(normal) {
             return Err(PathFault::OutOfLimits);
@@ -54,10 +32,25 @@ impl<'a> Path<'a> {
         Ok(())
     }
 
+    /// A circle. Its first point is repeated last, up to the sign of a zero.
+    pub fn add_circle(&mut self, center: Pos2, radius: f32) -> Result<(), PathFault>
+        ensures outcome { change result self.new ≡ added (whole_circle center radius) (held self.old) }
+        ensures adds { Adds (Circled center radius) (whole_circle center radius) result self.old self.new }
+    {
+        if !is_place(center) || !is_distance(radius) {
+            return Err(PathFault::OutOfLimits);
+        }
+        let directions = circle_for(radius);
+        self.reserve(directions.len())?;
+        self.push_on_circle(center, radius, directions);
+        Ok(())
+    }
+
     /// A straight line between two places.
     pub fn add_line_segment(&mut self, a: Pos2, b: Pos2) -> Result<(), PathFault>
         ensures outcome { left result self.new ≡ line_added (a ∷ b ∷ []) (path_state self.old) }
         ensures extends { Extends (told result) (a ∷ b ∷ []) (path_state self.old) (path_state self.new) }
+        ensures adds { Adds (Along (a ∷ b ∷ [])) (open_line (a ∷ b ∷ [])) result self.old self.new }
     {
         if !is_place(a) || !is_place(b) {
             return Err(PathFault::OutOfLimits);
@@ -73,6 +66,7 @@ impl<'a> Path<'a> {
     pub fn add_open_points(&mut self, places: &[Pos2]) -> Result<(), PathFault>
         ensures outcome { left result self.new ≡ line_added places.now (path_state self.old) }
         ensures extends { Extends (told result) places.now (path_state self.old) (path_state self.new) }
+        ensures adds { Adds (Along places.now) (open_line places.now) result self.old self.new }
     {
         if !all_places(places) {
             return Err(PathFault::OutOfLimits);
@@ -87,7 +81,7 @@ impl<'a> Path<'a> {
 
     /// Refuses where there is no space for an open line. Its points are counted only where twice as many might not fit.
     fn reserve_open(&self, first: Pos2, second: Pos2, rest: &[Pos2]) -> Result<(), PathFault>
-        ensures { result ≡ reserved (length (open_points (first ∷ second ∷ rest.now))) (room (path_state self.now)) }
+        ensures { result ≡ reserved (length (open_points (first ∷ second ∷ rest.now))) (room (held self.now)) }
     {
         let space = self.space();
         if rest.len() > space {
@@ -100,8 +94,8 @@ impl<'a> Path<'a> {
     }
 
     fn push_open(&mut self, first: Pos2, second: Pos2, rest: &[Pos2])
-        requires { length (open_points (first ∷ second ∷ rest.now)) ≤ room (path_state self.old) }
-        ensures { path_state self.new ≡ extended (path_state self.old) (open_points (first ∷ second ∷ rest.now)) }
+        requires { length (open_points (first ∷ second ∷ rest.now)) ≤ room (held self.old) }
+        ensures { held self.new ≡ extended (held self.old) (open_points (first ∷ second ∷ rest.now)) }
     {
         let mut edge = line::edge_normal(first, second);
         let mut normal = edge;
@@ -121,8 +115,8 @@ impl<'a> Path<'a> {
     }
 
     fn push_corner(&mut self, at: Pos2, corner: Corner)
-        requires { length (corner_points at corner) ≤ room (path_state self.old) }
-        ensures { path_state self.new ≡ extended (path_state self.old) (corner_points at corner) }
+        requires { length (corner_points at corner) ≤ room (held self.old) }
+        ensures { held self.new ≡ extended (held self.old) (corner_points at corner) }
     {
         match corner {
             Corner::Mitre(normal) => self.push(PathPoint { pos: at, normal }),
@@ -137,5 +131,44 @@ impl<'a> Path<'a> {
                 });
             }
         }
+    }
+
+    /// A loop over the places, back to the first. No corner is cut off.
+    pub fn add_line_loop(&mut self, places: &[Pos2]) -> Result<(), PathFault>
+        ensures outcome { change result self.new ≡ added (line_loop places.now) (held self.old) }
+        ensures adds { Adds (At places.now) (line_loop places.now) result self.old self.new }
+    {
+        if !all_places(places) {
+            return Err(PathFault::OutOfLimits);
+        }
+        let n = places.len();
+        if n < 2 {
+            return Err(PathFault::TooFewPoints);
+        }
+        self.reserve(n)?;
+        self.push_loop(places[n - 1], places[0], &places[1..]);
+        Ok(())
+    }
+
+    fn push_loop(&mut self, last: Pos2, first: Pos2, rest: &[Pos2])
+        requires { 1 + length rest.now ≤ room (held self.old) }
+        ensures { held self.new ≡ extended (held self.old) (loop_corners (edge_normal last first) (edge_normal last first) first rest.now) }
+    {
+        let closing = line::edge_normal(last, first);
+        let mut normal = closing;
+        let mut at = first;
+        for next in rest {
+            let bend = line::bend_between(normal, line::edge_normal(at, *next));
+            self.push(PathPoint {
+                pos: at,
+                normal: bend.mitre,
+            });
+            normal = bend.normal;
+            at = *next;
+        }
+        self.push(PathPoint {
+            pos: at,
+            normal: line::bend_between(normal, closing).mitre,
+        });
     }
 }

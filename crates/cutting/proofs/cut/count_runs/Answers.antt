@@ -2,7 +2,7 @@ use Rattle.std.proofs.Common.{◌<◌, length, arith, rules}
 use Rattle.std.proofs.lemmas.List.{drop_all}
 use Rattle.tessellator.specs.Triangles.{triples}
 use Rattle.cutting.proofs.Counting.{counts_all, first_counts, refused_here, taken_here, begun_here}
-use Rattle.cutting.proofs.Triples.{length-triples}
+use Rattle.tessellator.proofs.Triples.{length-triples}
 use Rattle.cutting.proofs.cut.count_runs.Goals as goal
 use Rattle.cutting.proofs.cut.count_runs.Goals.{then-fits, else-fits}
 

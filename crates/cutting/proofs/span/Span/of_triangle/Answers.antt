@@ -1,4 +1,4 @@
-use Rattle.cutting.proofs.Triples.{triple_at}
+use Rattle.tessellator.proofs.Triples.{triple_at}
 use Rattle.cutting.proofs.span.Span.of_triangle.Goals as goal
 
 pub returns : goal.returns

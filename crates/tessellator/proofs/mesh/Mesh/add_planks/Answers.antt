@@ -6,25 +6,15 @@ use Rattle.tessellator.proofs.mesh.Mesh.add_planks.Goals as goal
 pub loop-i-init : goal.loop-i-init
 loop-i-init c = triangles_none _ _
 
-pub push_triangle-requires : goal.push_triangle-requires
-push_triangle-requires c =
+pub add_plank-requires : goal.add_plank-requires
+add_plank-requires c =
     let so_far = length-each (λ i. plank i (i + 1)) 2 (λ i. refl) c.loop-i.i in
     let kept = vertices_kept _ _ _ _ c.loop-i.invariant in
     let fits = c.requires in
-    record { space = index_room_left _ _ _ _ c.loop-i.invariant 3 (omega arith); named = (omega arith, (omega arith, omega arith)) }
-
-pub push_triangle-requires-in-loop-i : goal.push_triangle-requires-in-loop-i
-push_triangle-requires-in-loop-i c =
-    let so_far = length-each (λ i. plank i (i + 1)) 2 (λ i. refl) c.loop-i.i in
-    let kept = vertices_kept _ _ _ _ c.loop-i.invariant in
-    let kept' = vertices_kept _ _ _ _ c.push_triangle.ensures in
-    let fits = c.requires in
-    record { space = index_room_left _ _ _ _ c.push_triangle.ensures 3 (index_room_left _ _ _ _ c.loop-i.invariant 6 (omega arith)); named = (omega arith, (omega arith, omega arith)) }
+    record { first_point = omega arith; second_point = omega arith; space = index_room_left _ _ _ _ c.loop-i.invariant 6 (omega arith) }
 
 pub loop-i-preserved : goal.loop-i-preserved
-loop-i-preserved c =
-    triangles_step _ _ _ _ _ _ _ c.loop-i.invariant (triangles_step _ _ _ _ _ _ _ c.push_triangle.ensures c.push_triangle-in-loop-i.ensures refl)
-    (each_more _ c.loop-i.i)
+loop-i-preserved c = triangles_step _ _ _ _ _ _ _ c.loop-i.invariant c.add_plank.ensures (each_more _ c.loop-i.i)
 
 pub returns : goal.returns
 returns c = let e : c.loop-i.i ≡ c.args.points - 1 = omega (arith, c.requires.some_points) in rw e at c.loop-i.invariant

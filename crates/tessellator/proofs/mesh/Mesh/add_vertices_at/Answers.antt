@@ -1,5 +1,6 @@
-use Rattle.std.proofs.Common.{arith, length-take}
+use Rattle.std.proofs.Common.{[], ◌∷◌, take, sym, ap, ◌∙◌, arith, length-take}
 use Rattle.std.proofs.lemmas.List.{map_more, length-map, take_all}
+use Rattle.tessellator.specs.BrushedRows.{vertex_of, vertices_at}
 use Rattle.tessellator.proofs.Growth.{vertices_none, vertices_step, vertex_room_left}
 use Rattle.tessellator.proofs.mesh.Mesh.add_vertices_at.Goals as goal
 
@@ -12,7 +13,7 @@ add_vertex-requires g c = vertex_room_left _ _ _ c.loop-row.invariant 1 (simp (l
 pub loop-row-preserved : goal.loop-row-preserved
 loop-row-preserved g c =
     vertices_step _ _ _ _ _ _ c.loop-row.invariant c.add_vertex.ensures
-    (simp c.vertex.ensures (map_more _ _ _ _ c.loop-row-test.true))
+    (simp (c.vertex.ensures, c.place.ensures) (map_more _ _ _ _ c.loop-row-test.true))
 
 pub returns : goal.returns
 returns g c = let e = take_all c.loop-row.row-index c.args.rows.now c.loop-row-test.false in rw e at c.loop-row.invariant

@@ -1,21 +1,42 @@
-use Rattle.std.proofs.Common.{length, ap, arith}
+use Rattle.std.proofs.Common.{◌≡◌, ◌≤◌, length, sym, refl, ap, ◌∙◌, subst, arith}
+use Rattle.path.specs.Held.{Held, held, rewritten}
+use Rattle.path.specs.declared.point.PathPoint.{PathPoint}
+use Rattle.tessellator.specs.Kinds.{fewest, vertex_count, index_count}
 use Rattle.tessellator.specs.State.{mesh_state}
-use Rattle.tessellator.proofs.Growth.{index_room_kept}
-use Rattle.tessellator.proofs.Lined.{room_few, rows_fit, rows_counted}
+use Rattle.tessellator.specs.Strokes.{kind_of}
+use Rattle.tessellator.specs.BrushedStrokes.{inset}
+use Rattle.tessellator.specs.declared.kind.Kind.{Kind}
+use Rattle.tessellator.specs.declared.stroke.Style.TheVariants.{Hard}
+use Rattle.tessellator.proofs.Hardly.{inner_fits, hard_counted, hard_drawn}
+use Rattle.tessellator.proofs.Stroked.{kind_enough}
 use Rattle.tessellator.proofs.stroke.draw.draw_hard.Goals as goal
 
-pub add_rows-requires : goal.add_rows-requires
-add_rows-requires g c =
-    rows_fit (g.C.ColorRule.colour c.args.rule.now c.args.bounds) c.hard_rows.result 2 c.args.points.now (mesh_state c.args.out.now) (mesh_state c.args.out.now)
-    (ap length c.hard_rows.ensures) c.requires.fits.vertices
+pub add_inner_fill-requires : goal.add_inner_fill-requires
+add_inner_fill-requires g c =
+    let p = held c.args.path.now in
+    let inner = c.as_slice-2.ensures ∙ ap (λ (h : Held PathPoint). h.used) c.set_in.ensures in
+    inner_fits (g.B.Brush.paints c.args.brush.now) c.args.feathering c.args.width c.args.course p.used _ _ _ _ (mesh_state c.args.out.now) _
+    c.as_slice.ensures c.hard_rows.ensures c.fill-fill.ensures inner c.add_rows.ensures c.requires.fits
 
-pub overflow_cast-points : goal.overflow_cast-points
-overflow_cast-points g c = omega (arith, c.requires.fits.vertices, room_few (mesh_state c.args.out.now))
+pub add_triangles-requires : goal.add_triangles-requires
+add_triangles-requires g c =
+    let p = held c.args.path.now in
+    let n = length c.as_slice-n.result.now in
+    let inner = c.as_slice-2.ensures ∙ ap (λ (h : Held PathPoint). h.used) c.set_in.ensures in
+    let drawn = hard_counted (g.B.Brush.paints c.args.brush.now) c.args.feathering c.args.width c.args.course p.used _ _ _ _ (mesh_state c.args.out.now) _
+    c.as_slice.ensures c.hard_rows.ensures c.fill-fill.ensures inner c.add_rows.ensures c.requires.fits _ c.add_inner_fill.ensures in
+    let long = ap length c.as_slice-n.ensures in
+    let kind = c.kind_of.ensures in
+    let vertices = ap (λ (k : Kind). vertex_count k n) kind ∙ ap (λ j. vertex_count (kind_of Hard c.args.course j) j) long in
+    let indices = ap (λ (k : Kind). index_count k n) kind ∙ ap (λ j. index_count (kind_of Hard c.args.course j) j) long in record { enough = subst (λ (k : Kind). fewest k ≤ n) (sym kind) (kind_enough Hard c.args.course n (omega (arith, c.requires.enough))); vertices = omega (arith, c.next_vertex-base.ensures, drawn.0); space = omega (arith, c.requires.fits.indices, drawn.1) }
 
-pub add_planks-requires : goal.add_planks-requires
-add_planks-requires g c =
-    let m = mesh_state c.args.out.now in
-    let m₁ = mesh_state c.add_rows.new.self in
-    let long = rows_counted (g.C.ColorRule.colour c.args.rule.now c.args.bounds) c.hard_rows.result 2 c.args.points.now m m₁ (ap length c.hard_rows.ensures) c.add_rows.ensures in
-    let kept = index_room_kept m m₁ _ c.add_rows.ensures in
-    record { some_points = omega (arith, c.requires.enough); vertices = omega arith; space = omega (arith, c.requires.fits.indices) }
+pub returns : goal.returns
+returns g c =
+    let p = held c.args.path.now in
+    let inner = c.as_slice-2.ensures ∙ ap (λ (h : Held PathPoint). h.used) c.set_in.ensures in
+    record {
+      path = c.set_in.ensures ∙ ap (λ f. rewritten p (inset c.args.width f p.used)) c.fill-fill.ensures;
+      mesh = hard_drawn (g.B.Brush.paints c.args.brush.now) c.args.feathering c.args.width c.args.course p.used _ _ _ _ (mesh_state c.args.out.now) _
+          c.as_slice.ensures c.hard_rows.ensures c.fill-fill.ensures inner c.add_rows.ensures c.requires.fits _ c.add_inner_fill.ensures
+          _ _ (length c.as_slice-n.result.now) _ c.next_vertex-base.ensures (ap length c.as_slice-n.ensures) c.kind_of.ensures c.add_triangles.ensures;
+    }

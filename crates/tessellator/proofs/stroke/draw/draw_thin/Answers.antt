@@ -1,21 +1,20 @@
-use Rattle.std.proofs.Common.{length, ap, arith}
-use Rattle.tessellator.specs.State.{mesh_state}
-use Rattle.tessellator.proofs.Growth.{index_room_kept}
-use Rattle.tessellator.proofs.Lined.{room_few, rows_fit, rows_counted}
+use Rattle.std.proofs.Common.{◌*◌, ◌≤◌, length, sym, ap, ◌∙◌, subst, arith}
+use Rattle.path.specs.Held.{Held, held}
+use Rattle.path.specs.declared.point.PathPoint.{PathPoint}
+use Rattle.path.proofs.Growing.{few_used}
+use Rattle.tessellator.specs.Kinds.{fewest, vertex_count}
+use Rattle.tessellator.specs.Strokes.{fill_of, kind_of}
+use Rattle.tessellator.specs.declared.kind.Kind.{Kind}
+use Rattle.tessellator.specs.declared.stroke.Style.TheVariants.{Thin}
+use Rattle.tessellator.proofs.Shapes.{fits_as}
+use Rattle.tessellator.proofs.Stroked.{length-swollen, kind_enough, thin_count}
 use Rattle.tessellator.proofs.stroke.draw.draw_thin.Goals as goal
 
-pub add_rows-requires : goal.add_rows-requires
-add_rows-requires g c =
-    rows_fit (g.C.ColorRule.colour c.args.rule.now c.args.bounds) c.thin_rows.result 3 c.args.points.now (mesh_state c.args.out.now) (mesh_state c.args.out.now)
-    (ap length c.thin_rows.ensures) c.requires.fits.vertices
-
-pub overflow_cast-points : goal.overflow_cast-points
-overflow_cast-points g c = omega (arith, c.requires.fits.vertices, room_few (mesh_state c.args.out.now))
-
-pub add_bands-requires : goal.add_bands-requires
-add_bands-requires g c =
-    let m = mesh_state c.args.out.now in
-    let m₁ = mesh_state c.add_rows.new.self in
-    let long = rows_counted (g.C.ColorRule.colour c.args.rule.now c.args.bounds) c.thin_rows.result 3 c.args.points.now m m₁ (ap length c.thin_rows.ensures) c.add_rows.ensures in
-    let kept = index_room_kept m m₁ _ c.add_rows.ensures in
-    record { some_points = omega (arith, c.requires.enough); some_rows = omega arith; vertices = omega arith; space = omega (arith, c.requires.fits.indices) }
+pub draw_rows-requires : goal.draw_rows-requires
+draw_rows-requires g c =
+    let p = held c.args.path.now in
+    let n = length c.as_slice-points.result.now in
+    let long = ap length (c.as_slice-points.ensures ∙ ap (λ (h : Held PathPoint). h.used) c.swell.ensures) ∙ length-swollen c.args.feathering c.args.width c.fill-fill.result p.used in
+    let few = few_used c.args.path.now in
+    let kind = c.kind_of-kind.ensures in
+    let rows = ap length c.thin_rows.ensures in record { few = omega arith; enough = subst (λ (k : Kind). fewest k ≤ n) (sym kind) (kind_enough Thin c.args.course n (omega (arith, c.requires.enough))); all_rows = ap (λ k. n * k) rows ∙ omega arith ∙ sym (thin_count c.args.course n) ∙ ap (λ (k : Kind). vertex_count k n) (sym kind); fits = fits_as (kind_of Thin c.args.course (length p.used)) _ _ _ _ (ap (kind_of Thin c.args.course) (sym long) ∙ sym kind) (sym long) c.requires.fits }

@@ -1,0 +1,21 @@
+use Rattle.std.proofs.Common.{[], ◌∷◌, ap, ◌∙◌, rules}
+use Rattle.path.specs.Adding.{open_line}
+use Rattle.path.specs.Builders.{Along}
+use Rattle.path.specs.Lines.{open_points}
+use Rattle.emath.specs.Answers.{accepted}
+use Rattle.path.specs.Held.{path_state}
+use Rattle.path.proofs.Retold.{as_left, line_is, extends_is}
+use Rattle.path.proofs.Corners.{open_along}
+use Rattle.path.proofs.Extending.{accepts}
+use Rattle.path.proofs.Growing.{grown_room, grown_twice}
+use Rattle.path.proofs.path.build.Path.add_line_segment.Goals as goal
+
+pub push-requires-2 : goal.push-requires-2
+push-requires-2 c = grown_room _ _ (_ ∷ []) 1 c.push.ensures (search rules)
+
+pub returns : goal.returns
+returns c =
+    let places = c.args.a ∷ c.args.b ∷ [] in
+    let both = grown_twice _ _ _ (_ ∷ []) (_ ∷ []) c.push.ensures c.push-2.ensures in
+    let k = accepts (Along places) (open_line places) (open_points places) _ _ (search rules) (open_along places (search rules)) (search rules) (search rules) in
+    record { outcome = ap as_left k.outcome ∙ line_is (path_state c.args.self.now) places; extends = extends_is places (accepted tt) _ _ k.adds.extends; adds = k.adds }

@@ -1,0 +1,21 @@
+use Rattle.std.proofs.Common.{sym, ap, ◌∙◌, arith}
+use Rattle.std.proofs.lemmas.Bool.{not-false}
+use Rattle.path.specs.Held.{held, extended}
+use Rattle.path.proofs.Arcs.{no_places, cut_begins, cut_fits, cut_is, cut_length}
+use Rattle.path.proofs.Growing.{extended_none}
+use Rattle.path.proofs.places.build.Places.push_arc.Goals as goal
+
+pub returns-else-not-arc : goal.returns-else-not-arc
+returns-else-not-arc c = sym (ap (extended (held c.args.self.now)) (no_places c.args.arc c.if-arc.true (not-false _ c.if-not-arc.false)) ∙ extended_none (held c.args.self.now))
+
+pub slice_bounds-push_on_circle-end : goal.slice_bounds-push_on_circle-end
+slice_bounds-push_on_circle-end c = cut_fits c.args.arc _ _ c.circle_for-directions.ensures.table c.arc_count.ensures.count c.requires.0 c.if-arc.false
+
+pub push_on_circle-requires : goal.push_on_circle-requires
+push_on_circle-requires c =
+    omega (arith, c.requires.1, cut_length c.args.arc _ _ c.circle_for-directions.ensures.table c.arc_count.ensures.count c.requires.0 c.if-arc.false)
+
+pub returns : goal.returns
+returns c =
+    c.push_on_circle.ensures
+    ∙ ap (extended (held c.args.self.now)) (cut_is c.args.arc _ _ c.circle_for-directions.ensures.table c.arc_count.ensures.count c.requires.0 c.if-arc.false)

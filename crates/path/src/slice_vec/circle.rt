@@ -1,0 +1,18 @@
+//! Extending a list by what stands on a circle.
+ghost use Rattle.std.specs.Prelude.{◌≡◌, ◌≤◌, map, length};
+ghost use Rattle.path.specs.Held.{held, extended, room};
+
+use super::SliceVec;
+use crate::on_circle::OnCircle;
+use emath::plane::{Pos2, Vec2};
+
+impl<'a, T: OnCircle> SliceVec<'a, T> {
+    pub(crate) fn push_on_circle(&mut self, center: Pos2, radius: f32, directions: &[Vec2])
+        requires { length directions.now ≤ room (held self.old) }
+        ensures { held self.new ≡ extended (held self.old) (map (T.standing center radius) directions.now) }
+    {
+        for direction in directions {
+            self.push(T::on_circle(center, radius, *direction));
+        }
+    }
+}
