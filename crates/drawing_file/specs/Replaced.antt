@@ -3,10 +3,9 @@ use Rattle.std.specs.Prelude.{ℕ, ◌/◌, cond, List, ◌++◌, length, drop, 
 use Rattle.emath.specs.Limits.{all_places}
 use Rattle.emath.specs.declared.plane.Pos2.{Pos2}
 use Rattle.path.specs.Builders.{Left, left, declined, line_added}
-use Rattle.path.specs.Held.{Held, emptied}
+use Rattle.path.specs.Held.{Held, Path, emptied}
 use Rattle.path.specs.declared.fault.PathFault.{PathFault}
 use Rattle.path.specs.declared.fault.PathFault.TheVariants.{OutOfLimits, TooFewPoints, NoSpace}
-use Rattle.path.specs.declared.slice_vec.SliceVec.{SliceVec}
 use Rattle.path.specs.declared.point.PathPoint.{PathPoint}
 use Rattle.drawing_file.specs.Values.{places_of}
 
@@ -15,7 +14,7 @@ pub record Replaced : Type 0 where
   pub line : Left
   pub places : List Pos2
 
-abbrev pub remains : Result (Unit {0}) PathFault → SliceVec PathPoint → List Pos2 → Replaced
+abbrev pub remains : Result (Unit {0}) PathFault → Path → List Pos2 → Replaced
 remains r path places = record { line = left r path; places = places }
 
 -- a line with more places than the memory holds is refused, for the same reasons and in the same order as by the path

@@ -1,5 +1,5 @@
 -- The places of arcs.
-use Rattle.std.proofs.Common.{◌≡◌, ℕ, ◌+◌, ◌-◌, ◌*◌, ◌/◌, ◌≤◌, Bool, true, false, cond, List, [], ◌∷◌, ◌++◌, map, length, take, drop, sym, refl, ap, ◌∙◌, mul-le-mul_right, arith, lit≤, length-append, length-drop, w64, Fits}
+use Rattle.std.proofs.Common.{◌≡◌, ℕ, ◌+◌, ◌-◌, ◌*◌, ◌/◌, ◌≤◌, Bool, true, false, cond, List, [], ◌∷◌, map, length, take, drop, sym, refl, ap, ◌∙◌, mul-le-mul_right, arith, lit≤, length-append, length-drop, w64, Fits}
 use lib.Ieee.{Float, le}
 use Rattle.std.proofs.lemmas.List.{length-take-le, length-map, take-map, take-take}
 use Rattle.emath.specs.Plane as plane

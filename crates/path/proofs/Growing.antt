@@ -1,5 +1,5 @@
 -- A list in lent memory that grows: what a loop that writes one item after the other keeps.
-use Rattle.std.proofs.Common.{◌≡◌, ℕ, suc, ◌+◌, ◌-◌, ◌<◌, ◌≤◌, min, List, [], ◌∷◌, ◌++◌, map, length, get_or, take, drop, set, sym, refl, ap, ◌∙◌, subst, append_assoc, arith, length-append, length-drop, length-set, length-take}
+use Rattle.std.proofs.Common.{◌≡◌, ℕ, ◌+◌, ◌-◌, ◌<◌, ◌≤◌, min, List, [], ◌∷◌, ◌++◌, map, length, get_or, take, drop, set, sym, refl, ap, ◌∙◌, subst, append_assoc, arith, length-append, length-drop, length-take}
 use Rattle.std.proofs.lemmas.List.{append-nil, drop-drop, drop_more, drop_all, take_more_set, drop-set-lt, take-append-drop, take_at, drop_at, length-map}
 use Rattle.path.specs.Held.{Held, held_in, emptied, empty_in, extended, rewritten, room, held}
 use Rattle.path.specs.declared.slice_vec.SliceVec.{SliceVec}

@@ -1,9 +1,9 @@
 -- Points that are turned in pairs from both ends.
-use Rattle.std.proofs.Common.{◌≡◌, ℕ, ◌+◌, ◌-◌, ◌<◌, ◌≤◌, cond, ◌||◌, ltb, List, [], ◌∷◌, ◌++◌, map, reverse, length, get_or, take, drop, set, sym, refl, ap, ◌∙◌, inl, inr, arith, length-append, length-set}
+use Rattle.std.proofs.Common.{◌≡◌, ℕ, ◌+◌, ◌-◌, ◌<◌, ◌≤◌, cond, ◌||◌, ltb, List, [], ◌∷◌, ◌++◌, map, reverse, length, get_or, drop, set, sym, refl, ap, ◌∙◌, inl, inr, arith, length-set}
 use lib.Ieee.{Float, binary64, of_bits, add, lt}
 use Rattle.std.specs.List.{range_with_len}
 use Rattle.std.proofs.lemmas.List.FromFn.{length-map-range_with_len, get_or-map-range_with_len, fill_by_all}
-use Rattle.std.proofs.lemmas.List.{length-map, length-reverse, set-append_left, take_at, drop_at, take-append-drop, at_drop_more, get_or_append_left, get_or_default, get_or-map, get_or-reverse, get_or-set_same, get_or-set_other}
+use Rattle.std.proofs.lemmas.List.{length-map, length-reverse, set-append_left, take_at, drop_at, at_drop_more, get_or_append_left, get_or_default, get_or-map, get_or-reverse, get_or-set_same, get_or-set_other}
 use Rattle.std.proofs.lemmas.Bool.{cond_both, cond-true, cond-false, or_from, or_left, or_right, le-ltb, lt-ltb, cases_lt, cases_eq}
 use Rattle.emath.specs.declared.plane.Pos2.{Pos2}
 use Rattle.path.specs.Held.{held_in, rewritten}

@@ -1,8 +1,8 @@
 -- Quadrants of circles, and rectangles with rounded corners.
-use Rattle.std.specs.Prelude.{◌≡◌, ℕ, ◌+◌, ◌-◌, ◌*◌, ◌≤◌, Bool, cond, ◌&&◌, List, [], ◌∷◌, ◌++◌, map, length, take, drop, from_bits, Float}
+use Rattle.std.specs.Prelude.{ℕ, ◌+◌, ◌-◌, ◌*◌, ◌≤◌, Bool, cond, ◌&&◌, List, [], ◌∷◌, ◌++◌, map, length, take, drop, from_bits, Float}
 use Rattle.std.specs.Float.Ieee.{add, sub, mul, le, eq}
 use Rattle.std.specs.Float.{float_min, float_max, binary32}
-use Rattle.emath.specs.Limits.{is_place, is_distance}
+use Rattle.emath.specs.Limits.{is_distance}
 use Rattle.emath.specs.Plane as plane
 use Rattle.emath.specs.declared.plane.Pos2.{Pos2}
 use Rattle.emath.specs.declared.rect.Rect.{Rect}

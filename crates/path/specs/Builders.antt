@@ -1,23 +1,22 @@
 -- What a path builder answers and leaves.
-use Rattle.std.specs.Prelude.{◌≡◌, ℕ, Bool, cond, ◌&&◌, List, [], ◌∷◌, length, Ok, Err, Result, nat_le, nat_lt}
+use Rattle.std.specs.Prelude.{◌≡◌, ℕ, cond, ◌&&◌, List, [], ◌∷◌, length, Ok, Err, Result, nat_le, nat_lt}
 use Rattle.emath.specs.Answers as Answers
 use Rattle.emath.specs.Answers.{Answer}
 use Rattle.emath.specs.Limits.{is_place, all_places, is_vector}
 use Rattle.emath.specs.declared.plane.Pos2.{Pos2}
 use Rattle.emath.specs.declared.plane.Vec2.{Vec2}
 use Rattle.path.specs.Faults.{told}
-use Rattle.path.specs.Held.{Held, extended, room, path_state}
+use Rattle.path.specs.Held.{Held, Path, extended, room, path_state}
 use Rattle.path.specs.Lines.{point, open_points}
 use Rattle.path.specs.declared.fault.PathFault.{PathFault}
 use Rattle.path.specs.declared.fault.PathFault.TheVariants.{OutOfLimits, TooFewPoints, NoSpace}
 use Rattle.path.specs.declared.point.PathPoint.{PathPoint}
-use Rattle.path.specs.declared.slice_vec.SliceVec.{SliceVec}
 
 pub record Left : Type 0 where
   pub answer : Answer (Unit {0})
   pub path : Held PathPoint
 
-abbrev pub left : Result (Unit {0}) PathFault → SliceVec PathPoint → Left
+abbrev pub left : Result (Unit {0}) PathFault → Path → Left
 left r p = record { answer = told r; path = path_state p }
 
 -- a refusal leaves the path as it was

@@ -1,5 +1,5 @@
 -- A list in lent memory: what is in use, and the rest of the memory as it stands.
-use Rattle.std.specs.Prelude.{ℕ, ◌-◌, min, List, [], ◌∷◌, ◌++◌, length, take, drop}
+use Rattle.std.specs.Prelude.{ℕ, ◌-◌, min, List, [], ◌++◌, length, take, drop}
 use Rattle.path.specs.declared.point.PathPoint.{PathPoint}
 use Rattle.path.specs.declared.slice_vec.SliceVec.{SliceVec}
 
@@ -33,6 +33,9 @@ room h = min (1048576 - length h.used) (length h.unused)
 abbrev pub held : {X : Type 0} → SliceVec X → Held X
 held s = held_in s.len s.items.now
 
--- of a path
-abbrev pub path_state : SliceVec PathPoint → Held PathPoint
+-- a path is such a list of points
+abbrev pub Path : Type 0
+Path = SliceVec PathPoint
+
+abbrev pub path_state : Path → Held PathPoint
 path_state p = held_in p.len p.items.now

@@ -1,12 +1,10 @@
 -- What every builder keeps to.
-use Rattle.std.specs.Prelude.{◌≡◌, ℕ, ◌≤◌, List, [], ◌∷◌, map, length, Result}
+use Rattle.std.specs.Prelude.{◌≡◌, ℕ, ◌≤◌, List, map, length, Result}
 use Rattle.emath.specs.Answers.{Answer, accepted, refused}
 use Rattle.emath.specs.declared.plane.Pos2.{Pos2}
-use Rattle.emath.specs.declared.plane.Vec2.{Vec2}
 use Rattle.path.specs.Adding.{Change, added, replaced}
 use Rattle.path.specs.Faults.{told}
 use Rattle.path.specs.Held.{Held, emptied, extended, held}
-use Rattle.path.specs.Lines.{point}
 use Rattle.path.specs.declared.fault.PathFault.{PathFault}
 use Rattle.path.specs.declared.point.PathPoint.{PathPoint}
 use Rattle.path.specs.declared.slice_vec.SliceVec.{SliceVec}

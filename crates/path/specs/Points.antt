@@ -2,7 +2,6 @@
 use Rattle.std.specs.Prelude.{Float}
 use Rattle.emath.specs.Plane as plane
 use Rattle.emath.specs.declared.plane.Pos2.{Pos2}
-use Rattle.emath.specs.declared.plane.Vec2.{Vec2}
 use Rattle.path.specs.declared.point.PathPoint.{PathPoint}
 use Rattle.path.specs.declared.point.Side.{Side}
 use Rattle.path.specs.declared.point.Side.TheVariants.{Outward, Along, Inward, OutwardPast, InwardPast}

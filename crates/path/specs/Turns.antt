@@ -1,5 +1,5 @@
 -- The winding of a path, and the path turned.
-use Rattle.std.specs.Prelude.{ℕ, ◌-◌, Bool, cond, List, [], ◌∷◌, map, reverse, length, from_bits, slice_index_or, Float}
+use Rattle.std.specs.Prelude.{◌-◌, cond, List, [], ◌∷◌, map, reverse, length, from_bits, slice_index_or, Float}
 use Rattle.std.specs.Float.{binary64, nan}
 use Rattle.std.specs.Float.Ieee.{add, sub, mul, lt}
 use Rattle.emath.specs.Plane as plane

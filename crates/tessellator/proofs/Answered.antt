@@ -1,17 +1,15 @@
 -- What every draw's answer says of the mesh and of its sizing.
-use Rattle.std.proofs.Common.{◌≡◌, ℕ, ◌+◌, ◌*◌, ◌≤◌, Bool, true, false, cond, ◌||◌, eqb, leb, List, [], ◌∷◌, ◌++◌, length, take, drop, Some, None, Option, sym, refl, ap, ◌∙◌, subst, arith, length-append}
+use Rattle.std.proofs.Common.{◌≡◌, ℕ, ◌+◌, ◌*◌, ◌≤◌, Bool, true, false, eqb, length, Some, None, Option, refl, ap, ◌∙◌, arith, length-append}
 use Rattle.std.proofs.lemmas.List.{take_at}
 use Rattle.std.proofs.lemmas.Bool.{cond-true, le-leb, or_right}
-use Rattle.emath.specs.Answers.{Answer, accepted, refused}
+use Rattle.emath.specs.Answers.{accepted}
 use Rattle.path.specs.Held.{Held}
 use Rattle.path.specs.declared.point.PathPoint.{PathPoint}
-use Rattle.tessellator.specs.Outcome.{Figure, Outcome, Added, Grows, Sized, outcome, settled, drawn, refusal_of, size_of, sizing, triangles_of}
+use Rattle.tessellator.specs.Outcome.{Figure, Added, Grows, Sized, outcome, settled, drawn, refusal_of, size_of, sizing, triangles_of}
 use Rattle.tessellator.specs.State.{MeshState, with_vertices, with_triangles, vertex_room, index_room}
-use Rattle.tessellator.specs.Triangles.{flat, raised}
 use Rattle.ecolor.specs.Vertices.{is_default}
 use Rattle.tessellator.specs.declared.fault.Appended.{Appended}
 use Rattle.tessellator.specs.declared.fault.FigureFault.{FigureFault}
-use Rattle.tessellator.specs.declared.fault.FigureFault.TheVariants.{OtherTexture, NoVertexSpace, NoIndexSpace}
 use Rattle.tessellator.proofs.Growth.{length-raised}
 use Rattle.tessellator.proofs.Triples.{length-flat}
 

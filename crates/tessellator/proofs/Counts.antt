@@ -1,9 +1,8 @@
 -- How many triangles each kind of figure has.
-use Rattle.std.proofs.Common.{◌≡◌, ℕ, zero, suc, ◌+◌, ◌-◌, ◌*◌, ◌≤◌, List, [], ◌∷◌, ◌++◌, map, length, sym, refl, ap, ◌∙◌, add_assoc, arith, length-append}
-use mathlib.Core.List.{map-map}
+use Rattle.std.proofs.Common.{◌≡◌, ℕ, ◌+◌, ◌-◌, ◌*◌, ◌≤◌, List, [], ◌∷◌, ◌++◌, length, sym, refl, ap, ◌∙◌, add_assoc, arith, length-append}
 use Rattle.tessellator.specs.Kinds.{vertex_count, fan, polygon, plank, planks, skirt, skirts, band, bands, ring, cap, triangles, index_count, fewest}
 use Rattle.tessellator.specs.State.{MeshState, with_triangles, index_room}
-use Rattle.tessellator.specs.Triangles.{Triangle, tri, raise, raised}
+use Rattle.tessellator.specs.Triangles.{Triangle, tri, raised}
 use Rattle.tessellator.specs.declared.kind.Kind.{Kind}
 use Rattle.tessellator.specs.declared.kind.Kind.TheVariants.{Nothing, HardFill, FeatheredFill, Line, Loop, Filled}
 use Rattle.tessellator.specs.declared.stroke.Style.{Style}

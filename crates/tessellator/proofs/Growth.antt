@@ -1,10 +1,10 @@
 -- One growth after another is a growth by both lists, and takes their room.
-use Rattle.std.proofs.Common.{◌≡◌, ℕ, zero, suc, ◌+◌, ◌-◌, ◌*◌, ◌≤◌, min, List, [], ◌∷◌, ◌++◌, length, drop, sym, refl, ap, ◌∙◌, append_assoc, suc-mul, zero-mul, add-one, arith, length-append, length-drop}
+use Rattle.std.proofs.Common.{◌≡◌, ℕ, zero, suc, ◌+◌, ◌-◌, ◌*◌, ◌≤◌, List, [], ◌∷◌, ◌++◌, length, sym, refl, ap, ◌∙◌, append_assoc, suc-mul, zero-mul, add-one, arith, length-append, length-drop}
 use mathlib.Core.List.{map-append}
 use Rattle.std.proofs.lemmas.List.{append-nil, drop-drop}
 use Rattle.tessellator.specs.Kinds.{each, cell, band, bands}
 use Rattle.tessellator.specs.State.{MeshState, appended, with_vertices, with_triangles, vertex_room, index_room}
-use Rattle.tessellator.specs.Triangles.{Triangle, tri, flat, raise, raised}
+use Rattle.tessellator.specs.Triangles.{Triangle, raise, raised}
 use Rattle.ecolor.specs.declared.vertex.Vertex.{Vertex}
 use Rattle.tessellator.proofs.Triples.{flat_append, length-flat}
 

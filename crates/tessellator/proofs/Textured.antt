@@ -1,5 +1,5 @@
 -- Textured fills.
-use Rattle.std.proofs.Common.{◌≡◌, ℕ, ◌≤◌, Bool, true, false, cond, ◌||◌, ltb, length, Some, None, Ok, Err, Option, sym, refl, ap, ◌∙◌, arith}
+use Rattle.std.proofs.Common.{◌≡◌, ◌≤◌, Bool, false, ◌||◌, length, Some, None, Ok, Err, Option, sym, ap, ◌∙◌, arith}
 use Rattle.std.proofs.lemmas.Bool.{cond-true, cond-false, le-ltb}
 use Rattle.emath.specs.Answers.{accepted}
 use Rattle.path.specs.Held.{Held}
@@ -9,7 +9,7 @@ use Rattle.ecolor.specs.Vertices.{same_texture}
 use Rattle.ecolor.specs.declared.color.Color32.{Color32}
 use Rattle.ecolor.specs.declared.vertex.TextureId.{TextureId}
 use Rattle.tessellator.specs.Faults.{told}
-use Rattle.tessellator.specs.Outcome.{Figure, Drawn, Fits, mesh_after, refusal_under, size_of, sizing, textured_settled, textured_outcome}
+use Rattle.tessellator.specs.Outcome.{Figure, Drawn, Fits, mesh_after, refusal_under, sizing, textured_settled, textured_outcome}
 use Rattle.tessellator.specs.State.{MeshState, is_empty, with_texture, vertex_room, index_room}
 use Rattle.tessellator.specs.declared.fault.Appended.{Appended}
 use Rattle.tessellator.specs.declared.fault.FigureFault.{FigureFault}

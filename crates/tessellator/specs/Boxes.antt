@@ -3,7 +3,6 @@ use Rattle.std.specs.Prelude.{List, map, Float}
 use Rattle.std.specs.Float.{binary32}
 use Rattle.std.specs.Float.Ieee.{add, div}
 use Rattle.emath.specs.Plane as plane
-use Rattle.emath.specs.declared.plane.Pos2.{Pos2}
 use Rattle.emath.specs.declared.rect.Rect.{Rect}
 use Rattle.path.specs.declared.point.PathPoint.{PathPoint}
 

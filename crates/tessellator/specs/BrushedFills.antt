@@ -1,45 +1,41 @@
 -- The figures of fills, for whatever makes the vertices.
-use Rattle.std.specs.Prelude.{ℕ, Bool, cond, ◌&&◌, ◌||◌, List, [], ◌∷◌, map, length, from_bits, nat_lt, Float}
-use Rattle.std.specs.Float.{binary32}
-use Rattle.std.specs.Float.Ieee.{mul, lt}
-use Rattle.emath.specs.Limits.{all_places, is_distance}
+use Rattle.std.specs.Prelude.{ℕ, Bool, cond, ◌&&◌, ◌||◌, List, length, nat_lt, Float}
+use Rattle.std.specs.Float.Ieee.{lt}
+use Rattle.emath.specs.Limits.{is_distance}
 use Rattle.emath.specs.Plane as plane
 use Rattle.emath.specs.declared.plane.Pos2.{Pos2}
 use Rattle.path.specs.Turns.{turned}
 use Rattle.path.specs.declared.point.PathPoint.{PathPoint}
-use Rattle.path.specs.declared.point.Side.TheVariants.{Outward, Along, Inward}
-use Rattle.ecolor.specs.Colors.{is_transparent, transparent}
+use Rattle.ecolor.specs.Colors.{is_transparent}
 use Rattle.ecolor.specs.declared.color.Color32.{Color32}
 use Rattle.ecolor.specs.declared.vertex.Vertex.{Vertex}
 use Rattle.tessellator.specs.Brushes.{plain, textured}
 use Rattle.tessellator.specs.Outcome.{Figure, nothing, shaped}
-use Rattle.tessellator.specs.BrushedRows.{row_vertices}
+use Rattle.tessellator.specs.BrushedRows.{brushed_rows}
 use Rattle.tessellator.specs.Fills.{hard_fill_rows, feathered_fill_rows}
 use Rattle.tessellator.specs.Strokes.{are_places}
 use Rattle.tessellator.specs.declared.kind.Kind.{Kind}
 use Rattle.tessellator.specs.declared.kind.Kind.TheVariants.{Nothing, HardFill, FeatheredFill}
 use Rattle.tessellator.specs.declared.row.Paint.{Paint}
-use Rattle.tessellator.specs.declared.row.Paint.TheVariants.{Flat}
-use Rattle.tessellator.specs.declared.row.Row.{Row}
 
 -- ---- figures
 
 -- a transparent fill and one of fewer than three points append nothing
-abbrev pub is_unfilled : Color32 → ℕ → Bool
-is_unfilled color n = is_transparent color || nat_lt n 3
+abbrev pub is_fill_empty : Color32 → ℕ → Bool
+is_fill_empty color n = is_transparent color || nat_lt n 3
 
 abbrev pub fill_kind : Float → Color32 → ℕ → Kind
-fill_kind feathering color n = cond (is_unfilled color n) Nothing (cond (lt plane.zero feathering) FeatheredFill HardFill)
+fill_kind feathering color n = cond (is_fill_empty color n) Nothing (cond (lt plane.zero feathering) FeatheredFill HardFill)
 
 -- a feathered fill is of points that run clockwise
 abbrev pub filled_with : (Paint → Pos2 → Vertex) → Float → Color32 → List PathPoint → Figure
 filled_with brush feathering color points =
-    cond (is_unfilled color (length points)) (nothing points)
-    (cond (lt plane.zero feathering) (shaped FeatheredFill (turned points) (row_vertices brush (feathered_fill_rows feathering color) (turned points)))
-    (shaped HardFill points (row_vertices brush (hard_fill_rows color) points)))
+    cond (is_fill_empty color (length points)) (nothing points)
+    (cond (lt plane.zero feathering) (shaped FeatheredFill (turned points) (brushed_rows brush (feathered_fill_rows feathering color) (turned points)))
+    (shaped HardFill points (brushed_rows brush (hard_fill_rows color) points)))
 
-abbrev pub fill_figure : Float → Color32 → List PathPoint → Figure
-fill_figure feathering color points = filled_with plain feathering color points
+abbrev pub plain_fill : Float → Color32 → List PathPoint → Figure
+plain_fill feathering color points = filled_with plain feathering color points
 
 abbrev pub textured_figure : Float → Color32 → (Pos2 → Pos2) → List PathPoint → Figure
 textured_figure feathering color rule points = filled_with (textured rule) feathering color points

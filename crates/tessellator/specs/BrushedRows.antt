@@ -9,12 +9,12 @@ use Rattle.tessellator.specs.declared.row.Paint.{Paint}
 use Rattle.tessellator.specs.declared.row.Row.{Row}
 
 -- the vertex of a row at a point, where `brush` makes a vertex at a place
-abbrev pub vertex_of : (Paint → Pos2 → Vertex) → PathPoint → Row → Vertex
-vertex_of brush point row = brush row.paint (place_of row.side point)
+abbrev pub brushed_vertex : (Paint → Pos2 → Vertex) → PathPoint → Row → Vertex
+brushed_vertex brush point row = brush row.paint (place_of row.side point)
 
 -- the vertices of one point, and of all of them
-abbrev pub vertices_at : (Paint → Pos2 → Vertex) → List Row → PathPoint → List Vertex
-vertices_at brush rows point = map (vertex_of brush point) rows
+abbrev pub brushed_vertices : (Paint → Pos2 → Vertex) → List Row → PathPoint → List Vertex
+brushed_vertices brush rows point = map (brushed_vertex brush point) rows
 
-abbrev pub row_vertices : (Paint → Pos2 → Vertex) → List Row → List PathPoint → List Vertex
-row_vertices brush rows points = flat_map (vertices_at brush rows) points
+abbrev pub brushed_rows : (Paint → Pos2 → Vertex) → List Row → List PathPoint → List Vertex
+brushed_rows brush rows points = flat_map (brushed_vertices brush rows) points

@@ -1,9 +1,8 @@
 -- The figures of strokes, open and closed, for whatever makes the vertices.
-use Rattle.std.specs.Prelude.{ℕ, ◌+◌, ◌-◌, ◌*◌, ◌≤◌, Bool, true, false, cond, not, ◌&&◌, ◌||◌, List, [], ◌∷◌, ◌++◌, map, length, take, drop, Some, None, Option, from_bits, nat_lt, Float}
+use Rattle.std.specs.Prelude.{ℕ, ◌-◌, cond, not, ◌&&◌, ◌||◌, List, ◌++◌, map, length, take, drop, Option, nat_lt, Float}
 use Rattle.std.specs.Float.{binary32}
-use Rattle.std.specs.Float.Ieee.{sub, mul, div, neg, le, lt, eq}
+use Rattle.std.specs.Float.Ieee.{sub, neg, lt, eq}
 use Rattle.emath.specs.Answers.{Answer}
-use Rattle.emath.specs.Limits.{is_distance}
 use Rattle.emath.specs.Plane as plane
 use Rattle.emath.specs.declared.plane.Pos2.{Pos2}
 use Rattle.emath.specs.declared.rect.Rect.{Rect}
@@ -11,31 +10,27 @@ use Rattle.path.specs.Held.{Held}
 use Rattle.path.specs.Points.{moved}
 use Rattle.path.specs.Turns.{turned}
 use Rattle.path.specs.declared.point.PathPoint.{PathPoint}
-use Rattle.path.specs.declared.point.Side.{Side}
-use Rattle.path.specs.declared.point.Side.TheVariants.{Outward, Along, Inward, OutwardPast, InwardPast}
+use Rattle.path.specs.declared.point.Side.TheVariants.{Outward, Inward}
 use Rattle.tessellator.specs.Boxes.{stroke_box}
 use Rattle.ecolor.specs.Colors.{transparent, is_transparent}
 use Rattle.tessellator.specs.Brushes.{colored}
-use Rattle.tessellator.specs.BrushedFills.{fill_kind, fill_figure}
+use Rattle.tessellator.specs.BrushedFills.{fill_kind, plain_fill}
 use Rattle.tessellator.specs.Fills.{half}
 use Rattle.tessellator.specs.Outcome.{Figure, Outcome, nothing, shaped, outcome, sizing}
-use Rattle.tessellator.specs.BrushedRows.{row_vertices}
+use Rattle.tessellator.specs.BrushedRows.{brushed_rows}
 use Rattle.tessellator.specs.Strokes.{Pen, centred, end_rows, fill_of, hard_rows, is_clear, is_loop, is_middle, kind_of, shrunk, stroke_allowed, style_of, thick_rows, thin_rows}
 use Rattle.tessellator.specs.State.{MeshState}
 use Rattle.ecolor.specs.declared.color.Color32.{Color32}
 use Rattle.tessellator.specs.declared.fault.Appended.{Appended}
 use Rattle.tessellator.specs.declared.kind.Kind.{Kind}
-use Rattle.tessellator.specs.declared.kind.Kind.TheVariants.{Nothing, Line, Loop, Filled}
+use Rattle.tessellator.specs.declared.kind.Kind.TheVariants.{Nothing}
 use Rattle.tessellator.specs.declared.row.Paint.{Paint}
-use Rattle.tessellator.specs.declared.row.Paint.TheVariants.{Flat, Core, Faded}
-use Rattle.tessellator.specs.declared.row.Row.{Row}
 use Rattle.tessellator.specs.declared.stroke.Course.{Course}
 use Rattle.tessellator.specs.declared.stroke.Course.TheVariants.{Unjoined, Around}
 use Rattle.tessellator.specs.declared.stroke.PathStroke.{PathStroke}
 use Rattle.tessellator.specs.declared.stroke.PathType.{PathType}
 use Rattle.tessellator.specs.declared.stroke.PathType.TheVariants.{Open, Closed}
 use Rattle.tessellator.specs.declared.stroke.StrokeKind.{StrokeKind}
-use Rattle.tessellator.specs.declared.stroke.StrokeKind.TheVariants.{Inside, Middle, Outside}
 use Rattle.tessellator.specs.declared.stroke.Style.{Style}
 use Rattle.tessellator.specs.declared.stroke.Style.TheVariants.{Hard, Thin, Thick}
 use Rattle.ecolor.specs.declared.vertex.Vertex.{Vertex}
@@ -50,29 +45,29 @@ course_of Closed = Around transparent
 -- ---- the points in the middle of the stroke
 
 -- clockwise, where the fill or the kind asks for an inside
-abbrev pub faced : Course → StrokeKind → List PathPoint → List PathPoint
-faced course kind points = cond (not (is_transparent (fill_of course)) || (is_loop course && not (is_middle kind))) (turned points) points
+abbrev pub faced_by : Course → StrokeKind → List PathPoint → List PathPoint
+faced_by course kind points = cond (not (is_transparent (fill_of course)) || (is_loop course && not (is_middle kind))) (turned points) points
 
-abbrev pub middle_of : Pen → List PathPoint → List PathPoint
-middle_of pen points = centred pen.kind pen.width (faced pen.course pen.kind points)
+abbrev pub middle_faced : Pen → List PathPoint → List PathPoint
+middle_faced pen points = centred pen.kind pen.width (faced_by pen.course pen.kind points)
 
 -- ---- the figures
 
 -- a filled thin stroke lies further out, so that the filled area stays as it is
-abbrev pub swollen : Float → Float → Color32 → List PathPoint → List PathPoint
-swollen feathering width fill points =
+abbrev pub swelled : Float → Float → Color32 → List PathPoint → List PathPoint
+swelled feathering width fill points =
     cond (is_transparent fill) points (cond (lt width feathering) (map (moved (Outward (half (sub binary32 feathering width)))) points) points)
 
 -- the vertices of a thick line, whose ends are feathered too
-abbrev pub thick_line : Float → Float → (Paint → Pos2 → Vertex) → List PathPoint → List Vertex
-thick_line feathering width brush points =
-    row_vertices brush (end_rows feathering width feathering) (take 1 points)
-    ++ (row_vertices brush (thick_rows feathering width transparent) (take (length points - 2) (drop 1 points))
-    ++ row_vertices brush (end_rows feathering width (neg feathering)) (drop (length points - 1) points))
+abbrev pub brushed_thick_line : Float → Float → (Paint → Pos2 → Vertex) → List PathPoint → List Vertex
+brushed_thick_line feathering width brush points =
+    brushed_rows brush (end_rows feathering width feathering) (take 1 points)
+    ++ (brushed_rows brush (thick_rows feathering width transparent) (take (length points - 2) (drop 1 points))
+    ++ brushed_rows brush (end_rows feathering width (neg feathering)) (drop (length points - 1) points))
 
-abbrev pub thick_vertices : Course → Float → Float → (Paint → Pos2 → Vertex) → List PathPoint → List Vertex
-thick_vertices Unjoined feathering width brush points = thick_line feathering width brush points
-thick_vertices (Around fill) feathering width brush points = row_vertices brush (thick_rows feathering width fill) points
+abbrev pub brushed_thick_vertices : Course → Float → Float → (Paint → Pos2 → Vertex) → List PathPoint → List Vertex
+brushed_thick_vertices Unjoined feathering width brush points = brushed_thick_line feathering width brush points
+brushed_thick_vertices (Around fill) feathering width brush points = brushed_rows brush (thick_rows feathering width fill) points
 
 -- the points of a visible fill within a hard stroke, whose vertices follow the stroke's
 abbrev pub inset : Float → Color32 → List PathPoint → List PathPoint
@@ -82,26 +77,26 @@ inset width fill points = cond (is_transparent fill) points (map (moved (Inward 
 abbrev pub stroke_with : Style → (Paint → Pos2 → Vertex) → Float → Float → Course → List PathPoint → Figure
 stroke_with Hard brush feathering width course points =
     let inner = inset width (fill_of course) points in
-    shaped (kind_of Hard course (length points)) inner (row_vertices brush (hard_rows width) points ++ (fill_figure plane.zero (fill_of course) inner).vertices)
+    shaped (kind_of Hard course (length points)) inner (brushed_rows brush (hard_rows width) points ++ (plain_fill plane.zero (fill_of course) inner).vertices)
 stroke_with Thin brush feathering width course points =
-    let outer = swollen feathering width (fill_of course) points in
-    shaped (kind_of Thin course (length points)) outer (row_vertices brush (thin_rows feathering width (fill_of course)) outer)
-stroke_with Thick brush feathering width course points = shaped (kind_of Thick course (length points)) points (thick_vertices course feathering width brush points)
+    let outer = swelled feathering width (fill_of course) points in
+    shaped (kind_of Thin course (length points)) outer (brushed_rows brush (thin_rows feathering width (fill_of course)) outer)
+stroke_with Thick brush feathering width course points = shaped (kind_of Thick course (length points)) points (brushed_thick_vertices course feathering width brush points)
 
 -- the rule's answers for the box of a stroke over these points
 abbrev pub brush_on : Pen → List PathPoint → Paint → Pos2 → Vertex
 brush_on pen points = colored (pen.colour (stroke_box pen.feathering pen.width points))
 
-abbrev pub stroke_along : Pen → List PathPoint → Figure
-stroke_along pen points = stroke_with (style_of pen.feathering pen.width) (brush_on pen points) pen.feathering pen.width pen.course points
+abbrev pub brushed_along : Pen → List PathPoint → Figure
+brushed_along pen points = stroke_with (style_of pen.feathering pen.width) (brush_on pen points) pen.feathering pen.width pen.course points
 
 -- fewer than two points give nothing, and a stroke of no width or of no colour gives only the fill
-abbrev pub stroke_figure : Pen → List PathPoint → Figure
-stroke_figure pen points =
+abbrev pub brushed_figure : Pen → List PathPoint → Figure
+brushed_figure pen points =
     cond (nat_lt (length points) 2) (nothing points)
-    (cond (eq pen.width plane.zero) (fill_figure pen.feathering (fill_of pen.course) points)
-    (cond (is_clear pen.plain) (fill_figure pen.feathering (fill_of pen.course) (shrunk pen.kind pen.width (faced pen.course pen.kind points)))
-    (stroke_along pen (middle_of pen points))))
+    (cond (eq pen.width plane.zero) (plain_fill pen.feathering (fill_of pen.course) points)
+    (cond (is_clear pen.plain) (plain_fill pen.feathering (fill_of pen.course) (shrunk pen.kind pen.width (faced_by pen.course pen.kind points)))
+    (brushed_along pen (middle_faced pen points))))
 
 -- what kind of figure that is, for n points
 abbrev pub stroke_kind : Pen → ℕ → Kind
@@ -123,8 +118,8 @@ pen_of colour plain feathering course stroke = record {
   plain = plain stroke.color;
 }
 
-abbrev pub stroke_outcome : Pen → Held PathPoint → MeshState → Outcome
-stroke_outcome pen path mesh = outcome (stroke_allowed pen path.used) (stroke_figure pen path.used) path mesh
+abbrev pub brushed_outcome : Pen → Held PathPoint → MeshState → Outcome
+brushed_outcome pen path mesh = outcome (stroke_allowed pen path.used) (brushed_figure pen path.used) path mesh
 
-abbrev pub stroke_sizing : Pen → Held PathPoint → Answer Appended
-stroke_sizing pen path = sizing (stroke_allowed pen path.used) (stroke_figure pen path.used)
+abbrev pub brushed_sizing : Pen → Held PathPoint → Answer Appended
+brushed_sizing pen path = sizing (stroke_allowed pen path.used) (brushed_figure pen path.used)

@@ -23,7 +23,7 @@ use path::point::{PathPoint, Side};
 
 /// A transparent fill and one of fewer than three points append nothing.
 fn is_unfilled(color: Color32, points: usize) -> bool
-    ensures { result ≡ brushed_fills.is_unfilled color points }
+    ensures { result ≡ brushed_fills.is_fill_empty color points }
 {
     color.is_transparent() || points < 3
 }
@@ -91,8 +91,8 @@ pub(crate) fn draw_fill<B: Brush>(
 
 /// The vertices of a hard fill within a stroke.
 pub(crate) fn add_inner_fill(points: &[PathPoint], color: Color32, out: &mut Mesh)
-    requires { length (brushed_fills.fill_figure plane.zero color points.now).vertices ≤ vertex_room (mesh_state out.old) }
-    ensures { mesh_state out.new ≡ with_vertices (mesh_state out.old) (brushed_fills.fill_figure plane.zero color points.now).vertices }
+    requires { length (brushed_fills.plain_fill plane.zero color points.now).vertices ≤ vertex_room (mesh_state out.old) }
+    ensures { mesh_state out.new ≡ with_vertices (mesh_state out.old) (brushed_fills.plain_fill plane.zero color points.now).vertices }
 {
     if !is_unfilled(color, points.len()) {
         out.add_rows(points, &hard_fill_rows(color), &Plain);
@@ -101,7 +101,7 @@ pub(crate) fn add_inner_fill(points: &[PathPoint], color: Color32, out: &mut Mes
 
 /// What filling the path would append, with space enough.
 pub fn size_of_fill(path: &Path, feathering: f32, color: Color32) -> Result<Appended, FigureFault>
-    ensures { told result ≡ sizing (brushed_fills.fill_allowed feathering (held path.now).used) (brushed_fills.fill_figure feathering color (held path.now).used) }
+    ensures { told result ≡ sizing (brushed_fills.fill_allowed feathering (held path.now).used) (brushed_fills.plain_fill feathering color (held path.now).used) }
 {
     let points = path.as_slice();
     if !is_distance(feathering) || !all_places(points) {
@@ -118,9 +118,9 @@ pub fn fill(
     color: Color32,
     out: &mut Mesh,
 ) -> Result<Appended, FigureFault>
-    ensures outcome { after result path.new out.new ≡ outcome (brushed_fills.fill_allowed feathering (held path.old).used) (brushed_fills.fill_figure feathering color (held path.old).used) (held path.old) (mesh_state out.old) }
+    ensures outcome { after result path.new out.new ≡ outcome (brushed_fills.fill_allowed feathering (held path.old).used) (brushed_fills.plain_fill feathering color (held path.old).used) (held path.old) (mesh_state out.old) }
     ensures grows { Grows (told result) (held path.old) (mesh_state out.old) (held path.new) (mesh_state out.new) }
-    ensures sized { Sized (told result) (sizing (brushed_fills.fill_allowed feathering (held path.old).used) (brushed_fills.fill_figure feathering color (held path.old).used)) (mesh_state out.old) }
+    ensures sized { Sized (told result) (sizing (brushed_fills.fill_allowed feathering (held path.old).used) (brushed_fills.plain_fill feathering color (held path.old).used)) (mesh_state out.old) }
 {
     let size = size_of_fill(path, feathering, color)?;
     if let Some(fault) = out.refusal(size) {

@@ -68,7 +68,7 @@ fn draw_stroke<C: ColorRule>(
     out: &mut Mesh,
 )
     requires { KindFits (brushed.stroke_kind (brushed.pen_of C.colour C.plain feathering course stroke.now) (length (held path.old).used)) (length (held path.old).used) (mesh_state out.old) }
-    ensures { Drawn (brushed.stroke_figure (brushed.pen_of C.colour C.plain feathering course stroke.now) (held path.old).used) (held path.old) (mesh_state out.old) (held path.new) (mesh_state out.new) }
+    ensures { Drawn (brushed.brushed_figure (brushed.pen_of C.colour C.plain feathering course stroke.now) (held path.old).used) (held path.old) (mesh_state out.old) (held path.new) (mesh_state out.new) }
 {
     if path.as_slice().len() < 2 {
         return;
@@ -93,7 +93,7 @@ pub(super) fn size_along<C: ColorRule>(
     course: Course,
     stroke: &PathStroke<C>,
 ) -> Result<Appended, FigureFault>
-    ensures { told result ≡ brushed.stroke_sizing (brushed.pen_of C.colour C.plain feathering course stroke.now) (held path.now) }
+    ensures { told result ≡ brushed.brushed_sizing (brushed.pen_of C.colour C.plain feathering course stroke.now) (held path.now) }
 {
     let points = path.as_slice();
     if !is_distance(stroke.width) || !is_distance(feathering) || !all_places(points) {
@@ -110,9 +110,9 @@ pub(super) fn stroke_along<C: ColorRule>(
     stroke: &PathStroke<C>,
     out: &mut Mesh,
 ) -> Result<Appended, FigureFault>
-    ensures outcome { after result path.new out.new ≡ brushed.stroke_outcome (brushed.pen_of C.colour C.plain feathering course stroke.now) (held path.old) (mesh_state out.old) }
+    ensures outcome { after result path.new out.new ≡ brushed.brushed_outcome (brushed.pen_of C.colour C.plain feathering course stroke.now) (held path.old) (mesh_state out.old) }
     ensures grows { Grows (told result) (held path.old) (mesh_state out.old) (held path.new) (mesh_state out.new) }
-    ensures sized { Sized (told result) (brushed.stroke_sizing (brushed.pen_of C.colour C.plain feathering course stroke.now) (held path.old)) (mesh_state out.old) }
+    ensures sized { Sized (told result) (brushed.brushed_sizing (brushed.pen_of C.colour C.plain feathering course stroke.now) (held path.old)) (mesh_state out.old) }
 {
     let size = size_along(path, feathering, course, stroke)?;
     if let Some(fault) = out.refusal(size) {
@@ -129,7 +129,7 @@ pub fn size_of_stroke<C: ColorRule>(
     path_type: PathType,
     stroke: &PathStroke<C>,
 ) -> Result<Appended, FigureFault>
-    ensures { told result ≡ brushed.stroke_sizing (brushed.pen_of C.colour C.plain feathering (brushed.course_of path_type) stroke.now) (held path.now) }
+    ensures { told result ≡ brushed.brushed_sizing (brushed.pen_of C.colour C.plain feathering (brushed.course_of path_type) stroke.now) (held path.now) }
 {
     size_along(path, feathering, path_type.course(), stroke)
 }
@@ -142,9 +142,9 @@ pub fn stroke<C: ColorRule>(
     stroke: &PathStroke<C>,
     out: &mut Mesh,
 ) -> Result<Appended, FigureFault>
-    ensures outcome { after result path.new out.new ≡ brushed.stroke_outcome (brushed.pen_of C.colour C.plain feathering (brushed.course_of path_type) stroke.now) (held path.old) (mesh_state out.old) }
+    ensures outcome { after result path.new out.new ≡ brushed.brushed_outcome (brushed.pen_of C.colour C.plain feathering (brushed.course_of path_type) stroke.now) (held path.old) (mesh_state out.old) }
     ensures grows { Grows (told result) (held path.old) (mesh_state out.old) (held path.new) (mesh_state out.new) }
-    ensures sized { Sized (told result) (brushed.stroke_sizing (brushed.pen_of C.colour C.plain feathering (brushed.course_of path_type) stroke.now) (held path.old)) (mesh_state out.old) }
+    ensures sized { Sized (told result) (brushed.brushed_sizing (brushed.pen_of C.colour C.plain feathering (brushed.course_of path_type) stroke.now) (held path.old)) (mesh_state out.old) }
 {
     stroke_along(path, feathering, path_type.course(), stroke, out)
 }
@@ -156,7 +156,7 @@ pub fn size_of_fill_and_stroke<C: ColorRule>(
     fill: Color32,
     stroke: &PathStroke<C>,
 ) -> Result<Appended, FigureFault>
-    ensures { told result ≡ brushed.stroke_sizing (brushed.pen_of C.colour C.plain feathering (Around fill) stroke.now) (held path.now) }
+    ensures { told result ≡ brushed.brushed_sizing (brushed.pen_of C.colour C.plain feathering (Around fill) stroke.now) (held path.now) }
 {
     size_along(path, feathering, Course::Around(fill), stroke)
 }
@@ -169,9 +169,9 @@ pub fn fill_and_stroke<C: ColorRule>(
     stroke: &PathStroke<C>,
     out: &mut Mesh,
 ) -> Result<Appended, FigureFault>
-    ensures outcome { after result path.new out.new ≡ brushed.stroke_outcome (brushed.pen_of C.colour C.plain feathering (Around fill) stroke.now) (held path.old) (mesh_state out.old) }
+    ensures outcome { after result path.new out.new ≡ brushed.brushed_outcome (brushed.pen_of C.colour C.plain feathering (Around fill) stroke.now) (held path.old) (mesh_state out.old) }
     ensures grows { Grows (told result) (held path.old) (mesh_state out.old) (held path.new) (mesh_state out.new) }
-    ensures sized { Sized (told result) (brushed.stroke_sizing (brushed.pen_of C.colour C.plain feathering (Around fill) stroke.now) (held path.old)) (mesh_state out.old) }
+    ensures sized { Sized (told result) (brushed.brushed_sizing (brushed.pen_of C.colour C.plain feathering (Around fill) stroke.now) (held path.old)) (mesh_state out.old) }
 {
     stroke_along(path, feathering, Course::Around(fill), stroke, out)
 }

@@ -97,7 +97,7 @@ fn add_thick_rows<B: Brush>(
 )
     requires enough { 2 ≤ length points.now }
     requires space { length points.now * 4 ≤ vertex_room (mesh_state out.old) }
-    ensures { mesh_state out.new ≡ with_vertices (mesh_state out.old) (brushed.thick_line feathering width (B.paints brush.now) points.now) }
+    ensures { mesh_state out.new ≡ with_vertices (mesh_state out.old) (brushed.brushed_thick_line feathering width (B.paints brush.now) points.now) }
 {
     let last = points.len() - 1;
     out.add_rows(
@@ -182,7 +182,7 @@ pub(crate) fn draw_along<C: ColorRule>(
 )
     requires enough { 2 ≤ length (held path.old).used }
     requires fits { KindFits (strokes.kind_of (strokes.style_of feathering stroke.now.width) course (length (held path.old).used)) (length (held path.old).used) (mesh_state out.old) }
-    ensures { Drawn (brushed.stroke_along (brushed.pen_of C.colour C.plain feathering course stroke.now) (held path.old).used) (held path.old) (mesh_state out.old) (held path.new) (mesh_state out.new) }
+    ensures { Drawn (brushed.brushed_along (brushed.pen_of C.colour C.plain feathering course stroke.now) (held path.old).used) (held path.old) (mesh_state out.old) (held path.new) (mesh_state out.new) }
 {
     let width = stroke.width;
     let bounds = box_for(path.as_slice(), feathering, width, &stroke.color);

@@ -43,7 +43,7 @@ impl StrokeKind {
 
 /// Turns a path that runs counterclockwise, where the fill or the kind asks for an inside.
 pub(crate) fn face(path: &mut Path, course: Course, kind: StrokeKind)
-    ensures { held path.new ≡ rewritten (held path.old) (brushed.faced course kind (held path.old).used) }
+    ensures { held path.new ≡ rewritten (held path.old) (brushed.faced_by course kind (held path.old).used) }
 {
     if !course.fill().is_transparent() || course.is_loop() && !kind.is_middle() {
         path.turn_clockwise();
@@ -74,7 +74,7 @@ pub(crate) fn shrink(path: &mut Path, kind: StrokeKind, width: f32)
 
 /// Moves the points of a filled thin stroke out, so that the filled area stays as it is.
 pub(crate) fn swell(path: &mut Path, feathering: f32, width: f32, fill: Color32)
-    ensures { held path.new ≡ rewritten (held path.old) (brushed.swollen feathering width fill (held path.old).used) }
+    ensures { held path.new ≡ rewritten (held path.old) (brushed.swelled feathering width fill (held path.old).used) }
 {
     if !fill.is_transparent() && width < feathering {
         path.move_points(Side::Outward(0.5 * (feathering - width)));

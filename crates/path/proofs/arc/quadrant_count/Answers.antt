@@ -1,4 +1,4 @@
-use Rattle.std.proofs.Common.{length, ap, ◌∙◌, arith, rules}
+use Rattle.std.proofs.Common.{length, ap, ◌∙◌, arith}
 use Rattle.circles.proofs.Circles.{circle_length, quarter_short}
 use Rattle.path.proofs.arc.quadrant_count.Goals as goal
 

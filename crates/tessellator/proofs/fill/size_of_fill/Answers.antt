@@ -1,4 +1,4 @@
-use Rattle.std.proofs.Common.{sym, ap, ◌∙◌, rules}
+use Rattle.std.proofs.Common.{rules}
 use Rattle.path.specs.Held.{held}
 use Rattle.tessellator.specs.Brushes.{plain}
 use Rattle.tessellator.proofs.Shapes.{fill_shape, shape_size}

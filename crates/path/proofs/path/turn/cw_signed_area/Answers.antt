@@ -1,6 +1,6 @@
 use Rattle.std.proofs.Common.{sym, refl, ◌∙◌}
 use Rattle.std.proofs.lemmas.List.{at_drop_all}
-use Rattle.path.specs.Turns.{no_point, area, area_from}
+use Rattle.path.specs.Turns.{no_point, area_from}
 use Rattle.path.proofs.Turning.{area_step, no_area}
 use Rattle.path.proofs.path.turn.cw_signed_area.Goals as goal
 

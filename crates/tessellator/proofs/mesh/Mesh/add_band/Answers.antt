@@ -1,7 +1,6 @@
-use Rattle.std.proofs.Common.{◌≡◌, ◌+◌, ◌-◌, ◌*◌, [], ◌∷◌, refl, arith}
+use Rattle.std.proofs.Common.{◌≡◌, ◌-◌, refl, arith}
 use Rattle.tessellator.specs.Kinds.{cell}
 use Rattle.tessellator.proofs.Growth.{triangles_none, triangles_step, index_room_left, vertices_kept, each_more, length-each}
-use Rattle.tessellator.proofs.Writes.{vertices_counted}
 use Rattle.tessellator.proofs.mesh.Mesh.add_band.Goals as goal
 
 pub loop-r-init : goal.loop-r-init

@@ -1,6 +1,5 @@
-use Rattle.std.proofs.Common.{◌≡◌, suc, ◌+◌, ◌-◌, ◌*◌, ◌<◌, ◌≤◌, ap, ◌∙◌, mul-le-mul_right, suc-mul, arith}
-use Rattle.tessellator.specs.Kinds.{band, cell}
-use Rattle.tessellator.proofs.Growth.{triangles_none, triangles_step, index_room_left, vertices_kept, each_more, length-each, length-bands}
+use Rattle.std.proofs.Common.{◌≡◌, suc, ◌+◌, ◌-◌, ◌*◌, ◌≤◌, mul-le-mul_right, suc-mul, arith}
+use Rattle.tessellator.proofs.Growth.{triangles_none, triangles_step, index_room_left, vertices_kept, each_more, length-bands}
 use Rattle.tessellator.proofs.Writes.{point_within}
 use Rattle.tessellator.proofs.mesh.Mesh.add_bands.Goals as goal
 

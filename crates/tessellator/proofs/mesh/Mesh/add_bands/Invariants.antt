@@ -1,4 +1,4 @@
-use Rattle.std.proofs.Common.{◌≡◌, ◌+◌}
+use Rattle.std.proofs.Common.{◌≡◌}
 use Rattle.tessellator.specs.Kinds.{bands}
 use Rattle.tessellator.specs.State.{mesh_state, with_triangles}
 use Rattle.tessellator.proofs.mesh.Mesh.add_bands.Given as goal

@@ -1,6 +1,5 @@
-use Rattle.std.proofs.Common.{[], ◌∷◌, take, sym, ap, ◌∙◌, arith, length-take}
+use Rattle.std.proofs.Common.{arith, length-take}
 use Rattle.std.proofs.lemmas.List.{map_more, length-map, take_all}
-use Rattle.tessellator.specs.BrushedRows.{vertex_of, vertices_at}
 use Rattle.tessellator.proofs.Growth.{vertices_none, vertices_step, vertex_room_left}
 use Rattle.tessellator.proofs.mesh.Mesh.add_vertices_at.Goals as goal
 

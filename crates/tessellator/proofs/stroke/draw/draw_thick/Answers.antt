@@ -1,4 +1,4 @@
-use Rattle.std.proofs.Common.{◌≡◌, ◌≤◌, length, sym, ap, ◌∙◌, subst, arith}
+use Rattle.std.proofs.Common.{◌≤◌, length, sym, ap, ◌∙◌, subst, arith}
 use Rattle.tessellator.specs.Kinds.{fewest, vertex_count, index_count}
 use Rattle.tessellator.specs.declared.kind.Kind.{Kind}
 use Rattle.tessellator.specs.declared.stroke.Style.TheVariants.{Thick}

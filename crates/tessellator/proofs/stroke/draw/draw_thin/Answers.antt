@@ -3,7 +3,7 @@ use Rattle.path.specs.Held.{Held, held}
 use Rattle.path.specs.declared.point.PathPoint.{PathPoint}
 use Rattle.path.proofs.Growing.{few_used}
 use Rattle.tessellator.specs.Kinds.{fewest, vertex_count}
-use Rattle.tessellator.specs.Strokes.{fill_of, kind_of}
+use Rattle.tessellator.specs.Strokes.{kind_of}
 use Rattle.tessellator.specs.declared.kind.Kind.{Kind}
 use Rattle.tessellator.specs.declared.stroke.Style.TheVariants.{Thin}
 use Rattle.tessellator.proofs.Shapes.{fits_as}

@@ -1,4 +1,4 @@
-use Rattle.std.proofs.Common.{map, length, sym, refl, ap, ◌∙◌, rules}
+use Rattle.std.proofs.Common.{map, rules}
 use Rattle.std.proofs.lemmas.List.{length-map}
 use Rattle.path.specs.Adding.{whole_circle}
 use Rattle.circles.specs.Circles.{circle}

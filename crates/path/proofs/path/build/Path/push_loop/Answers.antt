@@ -1,4 +1,4 @@
-use Rattle.std.proofs.Common.{ap, ◌∙◌, arith}
+use Rattle.std.proofs.Common.{ap, ◌∙◌}
 use lib.Ieee.{nan}
 use Rattle.path.specs.Held.{held, extended}
 use Rattle.path.specs.Lines.{loop_corners}

@@ -1,4 +1,4 @@
-use Rattle.std.proofs.Common.{false, rules}
+use Rattle.std.proofs.Common.{rules}
 use Rattle.path.specs.Arcs.{quadrant_count, quadrant_places}
 use Rattle.path.specs.Adding.{one_quadrant}
 use Rattle.path.specs.Laws.{Numbering}

@@ -1,7 +1,7 @@
 use Rattle.std.proofs.Common.{sym, ap, ◌∙◌, arith}
 use Rattle.std.proofs.lemmas.Bool.{not-false}
 use Rattle.path.specs.Held.{held, extended}
-use Rattle.path.proofs.Arcs.{no_places, cut_begins, cut_fits, cut_is, cut_length}
+use Rattle.path.proofs.Arcs.{no_places, cut_fits, cut_is, cut_length}
 use Rattle.path.proofs.Growing.{extended_none}
 use Rattle.path.proofs.places.build.Places.push_arc.Goals as goal
 

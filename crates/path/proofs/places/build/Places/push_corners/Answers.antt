@@ -1,6 +1,6 @@
-use Rattle.std.proofs.Common.{[], ◌∷◌, ◌++◌, ◌∙◌}
+use Rattle.std.proofs.Common.{◌∙◌}
 use Rattle.path.specs.Arcs.{arc_places, joined}
-use Rattle.path.proofs.Growing.{Growing, begins, has_room, goes_on}
+use Rattle.path.proofs.Growing.{begins, has_room, goes_on}
 use Rattle.path.proofs.places.build.Places.push_corners.Goals as goal
 
 pub push_arc-requires : goal.push_arc-requires

@@ -1,7 +1,6 @@
 use Rattle.std.proofs.Common.{[], ◌∷◌}
 use Rattle.path.specs.Arcs.{square}
-use Rattle.path.specs.Held.{held}
-use Rattle.path.proofs.Growing.{Growing, begins, one_more, goes_on, ends}
+use Rattle.path.proofs.Growing.{begins, one_more, goes_on, ends}
 use Rattle.path.proofs.places.build.Places.push_square.Goals as goal
 
 pub push-requires-2 : goal.push-requires-2
