@@ -1,10 +1,12 @@
 //! Stroking a path as an open line.
 ghost use Rattle.std.specs.Prelude.{◌≡◌};
 ghost use Rattle.path.specs.Held.{path_state};
+ghost use Rattle.tessellator.specs.BrushedStrokes as brushed;
 ghost use Rattle.tessellator.specs.Faults.{told};
 ghost use Rattle.tessellator.specs.Outcome.{Grows, Sized, after};
 ghost use Rattle.tessellator.specs.State.{mesh_state};
 ghost use Rattle.tessellator.specs.Strokes as strokes;
+ghost use Rattle.tessellator.specs.declared.stroke.Course.TheVariants.{Unjoined};
 
 use super::calls::{size_along, stroke_along};
 use super::{Course, PathStroke};
@@ -33,6 +35,7 @@ pub fn stroke_open<C: ColorRule>(
 ) -> Result<Appended, FigureFault>
     ensures outcome { after result path.new out.new ≡ strokes.stroke_outcome (strokes.open_pen C.colour C.plain feathering stroke.now) (path_state path.old) (mesh_state out.old) }
     ensures grows { Grows (told result) (path_state path.old) (mesh_state out.old) (path_state path.new) (mesh_state out.new) }
+    ensures open_course { after result path.new out.new ≡ brushed.brushed_outcome (brushed.pen_of C.colour C.plain feathering Unjoined stroke.now) (path_state path.old) (mesh_state out.old) }
     ensures sized { Sized (told result) (strokes.stroke_sizing (strokes.open_pen C.colour C.plain feathering stroke.now) (path_state path.old)) (mesh_state out.old) }
 {
     stroke_along(path, feathering, Course::Unjoined, stroke, out)
