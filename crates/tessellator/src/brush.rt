@@ -2,16 +2,17 @@
 ghost use Rattle.std.specs.Prelude.{◌≡◌};
 ghost use Rattle.emath.specs.declared.plane.Pos2.{Pos2};
 ghost use Rattle.ecolor.specs.declared.vertex.Vertex.{Vertex};
+ghost use Rattle.tessellator.specs.BrushedRows.{brushed_vertex};
 ghost use Rattle.tessellator.specs.Brushes.{colored, flat_color, plain, textured};
 ghost use Rattle.tessellator.specs.declared.row.Paint.{Paint};
 
-use crate::row::Paint;
+use crate::row::{Paint, Row};
 use ecolor::color::Color32;
 use ecolor::rule::ColorRule;
 use ecolor::texture::TextureRule;
 use ecolor::vertex::Vertex;
-use emath::plane::Pos2;
 use emath::rect::Rect;
+use path::point::PathPoint;
 
 impl Paint {
     /// The colour of a row that has one for all of it.
@@ -29,8 +30,9 @@ impl Paint {
 pub(crate) trait Brush {
     ghost paints: { Self → Paint → Pos2 → Vertex };
 
-    fn vertex(&self, paint: Paint, pos: Pos2) -> Vertex
-        ensures { result ≡ paints self.now paint pos };
+    /// The vertex of a row at a point.
+    fn vertex(&self, row: Row, point: PathPoint) -> Vertex
+        ensures { result ≡ brushed_vertex (paints self.now) point row };
 }
 
 /// Untextured: the core has the rule's colours for the box, asked at the vertex's own place.
@@ -43,8 +45,9 @@ pub(crate) struct Colored<'a, C> {
 impl<'a, C: ColorRule> Brush for Colored<'a, C> {
     ghost paints = { λ b. colored (C.ColorRule.colour b.rule.now b.bounds) };
 
-    fn vertex(&self, paint: Paint, pos: Pos2) -> Vertex {
-        match paint {
+    fn vertex(&self, row: Row, point: PathPoint) -> Vertex {
+        let pos = point.place(row.side);
+        match row.paint {
             Paint::Flat(color) => Vertex::untextured(pos, color),
             Paint::Core => Vertex::untextured(pos, self.rule.color_at(self.bounds, pos)),
             Paint::Faded(factor) => Vertex::untextured(
@@ -62,8 +65,8 @@ pub(crate) struct Plain;
 impl Brush for Plain {
     ghost paints = { λ _. plain };
 
-    fn vertex(&self, paint: Paint, pos: Pos2) -> Vertex {
-        Vertex::untextured(pos, paint.flat_color())
+    fn vertex(&self, row: Row, point: PathPoint) -> Vertex {
+        Vertex::untextured(point.place(row.side), row.paint.flat_color())
     }
 }
 
@@ -76,11 +79,12 @@ pub(crate) struct Textured<'a, U> {
 impl<'a, U: TextureRule> Brush for Textured<'a, U> {
     ghost paints = { λ b. textured (U.TextureRule.lies b.rule.now) };
 
-    fn vertex(&self, paint: Paint, pos: Pos2) -> Vertex {
+    fn vertex(&self, row: Row, point: PathPoint) -> Vertex {
+        let pos = point.place(row.side);
         Vertex {
             pos,
             uv: self.rule.uv_at(pos),
-            color: paint.flat_color(),
+            color: row.paint.flat_color(),
         }
     }
 }

@@ -14,7 +14,7 @@ impl<'a> Mesh<'a> {
         ensures { mesh_state self.new ≡ with_vertices (mesh_state self.old) (brushed_vertices (B.paints brush.now) rows.now point) }
     {
         for row in rows {
-            self.add_vertex(brush.vertex(row.paint, point.place(row.side)));
+            self.add_vertex(brush.vertex(*row, point));
         }
     }
 

@@ -12,7 +12,7 @@ add_vertex-requires g c = vertex_room_left _ _ _ c.loop-row.invariant 1 (simp (l
 pub loop-row-preserved : goal.loop-row-preserved
 loop-row-preserved g c =
     vertices_step _ _ _ _ _ _ c.loop-row.invariant c.add_vertex.ensures
-    (simp (c.vertex.ensures, c.place.ensures) (map_more _ _ _ _ c.loop-row-test.true))
+    (simp c.vertex.ensures (map_more _ _ _ _ c.loop-row-test.true))
 
 pub returns : goal.returns
 returns g c = let e = take_all c.loop-row.row-index c.args.rows.now c.loop-row-test.false in rw e at c.loop-row.invariant
