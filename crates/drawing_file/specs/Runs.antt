@@ -1,7 +1,7 @@
 -- Running the records of a file.
 use Rattle.std.specs.Prelude.{ℕ, zero, suc, ◌+◌, ◌-◌, cond, List, length, Some, None, Ok, Err, Option, Result, ◌==◌, nat_lt}
 use Rattle.emath.specs.declared.plane.Pos2.{Pos2}
-use Rattle.path.specs.Held.{Held, path_state, emptied}
+use Rattle.path.specs.Held.{Held, held, emptied}
 use Rattle.path.specs.declared.point.PathPoint.{PathPoint}
 use Rattle.ecolor.specs.Colors.{is_transparent}
 use Rattle.tessellator.specs.Outcome.{Outcome}
@@ -36,7 +36,7 @@ abbrev pub run_state : Runner → RunState
 run_state r = record {
   rest = r.rest.now;
   size = r.size;
-  path = path_state r.path.now;
+  path = held r.path.now;
   places = r.places.memory.now;
   mesh = mesh_state r.mesh.now;
   waiting = r.waiting;

@@ -1,6 +1,6 @@
 //! A line record: it replaces the path.
 ghost use Rattle.std.specs.Prelude.{◌≡◌};
-ghost use Rattle.path.specs.Held.{path_state};
+ghost use Rattle.path.specs.Held.{held};
 ghost use Rattle.drawing_file.specs.Replaced.{crowding, remains, replaced};
 
 use crate::decode;
@@ -25,7 +25,7 @@ fn crowded(body: &[u8]) -> PathFault
 
 /// Empties the path and adds the line of the record.
 fn replace_by(path: &mut Path, memory: &mut [Pos2], body: &[u8]) -> Result<(), PathFault>
-    ensures { remains result path.new memory.new ≡ replaced body.now (path_state path.old) memory.old }
+    ensures { remains result path.new memory.new ≡ replaced body.now (held path.old) memory.old }
 {
     path.clear();
     let n = body.len() / 8;
@@ -38,7 +38,7 @@ fn replace_by(path: &mut Path, memory: &mut [Pos2], body: &[u8]) -> Result<(), P
 
 /// The same, with the memory that a runner holds.
 pub(crate) fn replace(path: &mut Path, places: &mut Places, body: &[u8]) -> Result<(), PathFault>
-    ensures { remains result path.new places.new.memory.now ≡ replaced body.now (path_state path.old) places.old.memory.now }
+    ensures { remains result path.new places.new.memory.now ≡ replaced body.now (held path.old) places.old.memory.now }
 {
     replace_by(path, places.memory, body)
 }

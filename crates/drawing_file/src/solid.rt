@@ -1,6 +1,6 @@
 //! Strokes of one colour.
 ghost use Rattle.std.specs.Prelude.{◌≡◌};
-ghost use Rattle.path.specs.Held.{path_state};
+ghost use Rattle.path.specs.Held.{held};
 ghost use Rattle.tessellator.specs.Outcome.{after};
 ghost use Rattle.tessellator.specs.State.{mesh_state};
 ghost use Rattle.drawing_file.specs.Solids.{solid_outcome};
@@ -19,7 +19,7 @@ pub(crate) fn stroke_solid(
     stroke: &PathStroke<Solid>,
     out: &mut Mesh,
 ) -> Result<Appended, FigureFault>
-    ensures { after result path.new out.new ≡ solid_outcome feathering stroke.now (path_state path.old) (mesh_state out.old) }
+    ensures { after result path.new out.new ≡ solid_outcome feathering stroke.now (held path.old) (mesh_state out.old) }
 {
     stroke_open(path, feathering, stroke, out)
 }

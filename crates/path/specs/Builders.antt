@@ -6,7 +6,7 @@ use Rattle.emath.specs.Limits.{is_place, all_places, is_vector}
 use Rattle.emath.specs.declared.plane.Pos2.{Pos2}
 use Rattle.emath.specs.declared.plane.Vec2.{Vec2}
 use Rattle.path.specs.Faults.{told}
-use Rattle.path.specs.Held.{Held, Path, extended, room, path_state}
+use Rattle.path.specs.Held.{Held, Path, extended, room, held}
 use Rattle.path.specs.Lines.{point, open_points}
 use Rattle.path.specs.declared.fault.PathFault.{PathFault}
 use Rattle.path.specs.declared.fault.PathFault.TheVariants.{OutOfLimits, TooFewPoints, NoSpace}
@@ -17,7 +17,7 @@ pub record Left : Type 0 where
   pub path : Held PathPoint
 
 abbrev pub left : Result (Unit {0}) PathFault → Path → Left
-left r p = record { answer = told r; path = path_state p }
+left r p = record { answer = told r; path = held p }
 
 -- a refusal leaves the path as it was
 abbrev pub declined : PathFault → Held PathPoint → Left

@@ -36,6 +36,3 @@ held s = held_in s.len s.items.now
 -- a path is such a list of points
 abbrev pub Path : Type 0
 Path = SliceVec PathPoint
-
-abbrev pub path_state : Path → Held PathPoint
-path_state p = held_in p.len p.items.now

@@ -4,7 +4,7 @@ use Rattle.emath.specs.Answers as Answers
 use Rattle.emath.specs.Answers.{Answer}
 use Rattle.emath.specs.Limits.{is_place}
 use Rattle.emath.specs.declared.plane.Pos2.{Pos2}
-use Rattle.path.specs.Held.{Held, Path, path_state, rewritten}
+use Rattle.path.specs.Held.{Held, Path, held, rewritten}
 use Rattle.path.specs.declared.point.PathPoint.{PathPoint}
 use Rattle.tessellator.specs.Faults.{told}
 use Rattle.tessellator.specs.Kinds.{triangles, vertex_count, index_count}
@@ -48,7 +48,7 @@ pub record Outcome : Type 0 where
 
 -- what a draw answers and leaves, as seen from outside
 abbrev pub after : Result Appended FigureFault → Path → Mesh → Outcome
-after r path mesh = record { answer = told r; path = path_state path; mesh = mesh_state mesh }
+after r path mesh = record { answer = told r; path = held path; mesh = mesh_state mesh }
 
 -- a refusal leaves path and mesh as they were
 abbrev pub refused : FigureFault → Held PathPoint → MeshState → Outcome

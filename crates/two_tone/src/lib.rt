@@ -2,7 +2,7 @@
 #![tactic(auto)]
 
 ghost use Rattle.std.specs.Prelude.{◌≡◌, false, None};
-ghost use Rattle.path.specs.Held.{path_state};
+ghost use Rattle.path.specs.Held.{held};
 ghost use Rattle.tessellator.specs.Outcome.{after};
 ghost use Rattle.tessellator.specs.State.{mesh_state};
 ghost use Rattle.tessellator.specs.Strokes.{open_pen, stroke_outcome};
@@ -64,7 +64,7 @@ pub fn stroke_in_two_tones(
     stroke: &PathStroke<TwoTone>,
     out: &mut Mesh,
 ) -> Result<Appended, FigureFault>
-    ensures { after result path.new out.new ≡ stroke_outcome (open_pen (λ s _ p. tone_at s p) (λ _. None) feathering stroke.now) (path_state path.old) (mesh_state out.old) }
+    ensures { after result path.new out.new ≡ stroke_outcome (open_pen (λ s _ p. tone_at s p) (λ _. None) feathering stroke.now) (held path.old) (mesh_state out.old) }
 {
     stroke_open(path, feathering, stroke, out)
 }

@@ -1,6 +1,6 @@
 //! Running a file.
 ghost use Rattle.std.specs.Prelude.{◌≡◌};
-ghost use Rattle.path.specs.Held.{path_state};
+ghost use Rattle.path.specs.Held.{held};
 ghost use Rattle.tessellator.specs.State.{mesh_state};
 ghost use Rattle.drawing_file.specs.Faults.{told};
 ghost use Rattle.drawing_file.specs.Format.{item, Whole};
@@ -29,7 +29,7 @@ impl<'r, 'a> Runner<'r, 'a> {
         places: &'r mut [Pos2],
         mesh: &'r mut Mesh<'a>,
     ) -> Runner<'r, 'a>
-        ensures { run_state result ≡ started bytes.now (path_state path.old) places.old (mesh_state mesh.old) }
+        ensures { run_state result ≡ started bytes.now (held path.old) places.old (mesh_state mesh.old) }
     {
         Runner {
             rest: bytes,

@@ -4,7 +4,7 @@ ghost use Rattle.path.specs.Adding.{change, added, one_point, whole_circle, open
 ghost use Rattle.path.specs.Builders.{Along, Extends, left, reserved, point_added, line_added};
 ghost use Rattle.path.specs.Circling.{Circled};
 ghost use Rattle.path.specs.Faults.{told};
-ghost use Rattle.path.specs.Held.{held, path_state, extended, room};
+ghost use Rattle.path.specs.Held.{held, extended, room};
 ghost use Rattle.path.specs.Laws.{Adds, At};
 ghost use Rattle.path.specs.Lines.{corner_points, edge_normal, loop_corners, open_points};
 
@@ -20,8 +20,8 @@ use emath::plane::{Pos2, Vec2};
 impl<'a> Path<'a> {
     /// One point with its normal.
     pub fn add_point(&mut self, pos: Pos2, normal: Vec2) -> Result<(), PathFault>
-        ensures outcome { left result self.new ≡ point_added pos normal (path_state self.old) }
-        ensures extends { Extends (told result) (pos ∷ []) (path_state self.old) (path_state self.new) }
+        ensures outcome { left result self.new ≡ point_added pos normal (held self.old) }
+        ensures extends { Extends (told result) (pos ∷ []) (held self.old) (held self.new) }
         ensures adds { Adds (Along (pos ∷ [])) (one_point pos normal) result self.old self.new }
     {
         if !is_place(pos) || !is_vector(normal) {
@@ -48,8 +48,8 @@ impl<'a> Path<'a> {
 
     /// A straight line between two places.
     pub fn add_line_segment(&mut self, a: Pos2, b: Pos2) -> Result<(), PathFault>
-        ensures outcome { left result self.new ≡ line_added (a ∷ b ∷ []) (path_state self.old) }
-        ensures extends { Extends (told result) (a ∷ b ∷ []) (path_state self.old) (path_state self.new) }
+        ensures outcome { left result self.new ≡ line_added (a ∷ b ∷ []) (held self.old) }
+        ensures extends { Extends (told result) (a ∷ b ∷ []) (held self.old) (held self.new) }
         ensures adds { Adds (Along (a ∷ b ∷ [])) (open_line (a ∷ b ∷ [])) result self.old self.new }
     {
         if !is_place(a) || !is_place(b) {
@@ -64,8 +64,8 @@ impl<'a> Path<'a> {
 
     /// An open line over the places. A corner sharper than a right angle gets two points.
     pub fn add_open_points(&mut self, places: &[Pos2]) -> Result<(), PathFault>
-        ensures outcome { left result self.new ≡ line_added places.now (path_state self.old) }
-        ensures extends { Extends (told result) places.now (path_state self.old) (path_state self.new) }
+        ensures outcome { left result self.new ≡ line_added places.now (held self.old) }
+        ensures extends { Extends (told result) places.now (held self.old) (held self.new) }
         ensures adds { Adds (Along places.now) (open_line places.now) result self.old self.new }
     {
         if !all_places(places) {

@@ -1,6 +1,6 @@
 //! Moving the points of a path.
 ghost use Rattle.std.specs.Prelude.{◌≡◌, map};
-ghost use Rattle.path.specs.Held.{path_state, rewritten};
+ghost use Rattle.path.specs.Held.{held, rewritten};
 ghost use Rattle.path.specs.Points.{moved};
 
 use super::Path;
@@ -9,7 +9,7 @@ use crate::point::Side;
 impl<'a> Path<'a> {
     /// Moves every point to a side of it.
     pub fn move_points(&mut self, side: Side)
-        ensures { path_state self.new ≡ rewritten (path_state self.old) (map (moved side) (path_state self.old).used) }
+        ensures { held self.new ≡ rewritten (held self.old) (map (moved side) (held self.old).used) }
     {
         for i in 0..self.len {
             self.items[i] = self.items[i].moved(side);

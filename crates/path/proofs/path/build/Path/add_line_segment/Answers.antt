@@ -3,7 +3,7 @@ use Rattle.path.specs.Adding.{open_line}
 use Rattle.path.specs.Builders.{Along}
 use Rattle.path.specs.Lines.{open_points}
 use Rattle.emath.specs.Answers.{accepted}
-use Rattle.path.specs.Held.{path_state}
+use Rattle.path.specs.Held.{held}
 use Rattle.path.proofs.Retold.{as_left, line_is, extends_is}
 use Rattle.path.proofs.Corners.{open_along}
 use Rattle.path.proofs.Extending.{accepts}
@@ -18,4 +18,4 @@ returns c =
     let places = c.args.a ∷ c.args.b ∷ [] in
     let both = grown_twice _ _ _ (_ ∷ []) (_ ∷ []) c.push.ensures c.push-2.ensures in
     let k = accepts (Along places) (open_line places) (open_points places) _ _ (search rules) (open_along places (search rules)) (search rules) (search rules) in
-    record { outcome = ap as_left k.outcome ∙ line_is (path_state c.args.self.now) places; extends = extends_is places (accepted tt) _ _ k.adds.extends; adds = k.adds }
+    record { outcome = ap as_left k.outcome ∙ line_is (held c.args.self.now) places; extends = extends_is places (accepted tt) _ _ k.adds.extends; adds = k.adds }
