@@ -1,5 +1,5 @@
 -- The circle tables as decimal entries, and the one that serves for a radius.
-use Rattle.std.specs.Prelude.{◌≡◌, ℕ, ◌+◌, ◌-◌, ◌*◌, ◌<◌, ◌≤◌, Bool, true, false, cond, ◌&&◌, T, List, [], ◌∷◌, map, length, ◌==◌, from_bits, slice_index_or, Float}
+use Rattle.std.specs.Prelude.{◌≡◌, ℕ, ◌+◌, ◌-◌, ◌*◌, ◌<◌, ◌≤◌, Bool, true, false, if◌then◌else◌, ◌&&◌, T, List, [], ◌∷◌, map, length, ◌==◌, from_bits, slice_index_or, Float}
 use Rattle.std.specs.Float.{binary32}
 use Rattle.std.specs.Float.Ieee.{round, le, lt}
 use Rattle.emath.specs.Plane as plane
@@ -117,7 +117,7 @@ entries128 =
 -- Radii to 2, to 5, below 18, below 50, and the others.
 abbrev pub by_radius : {A : Type 0} → A → A → A → A → A → Float → A
 by_radius a b c d e r =
-    cond (le r plane.two) a (cond (le r (from_bits binary32 0x40A0_0000)) b (cond (lt r (from_bits binary32 0x4190_0000)) c (cond (lt r (from_bits binary32 0x4248_0000)) d e)))
+    if le r plane.two then a else if le r (from_bits binary32 0x40A0_0000) then b else if lt r (from_bits binary32 0x4190_0000) then c else if lt r (from_bits binary32 0x4248_0000) then d else e
 
 abbrev pub entries : Float → List Entry
 entries r = by_radius entries8 entries16 entries32 entries64 entries128 r

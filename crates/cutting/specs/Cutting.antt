@@ -1,5 +1,5 @@
 -- Runs of triangles that 16-bit indices can name, and the least number of them.
-use Rattle.std.specs.Prelude.{◌≡◌, ℕ, ◌+◌, ◌-◌, ◌≤◌, min, max, cond, List, [], ◌∷◌, ◌++◌, length, nat_le}
+use Rattle.std.specs.Prelude.{◌≡◌, ℕ, ◌+◌, ◌-◌, ◌≤◌, min, max, if◌then◌else◌, List, [], ◌∷◌, ◌++◌, length, nat_le}
 use Rattle.std.specs.List.{AllByRecursion}
 use Rattle.tessellator.specs.Triangles.{Triangle, tri}
 
@@ -45,9 +45,9 @@ go_on low high [] = [] ∷ []
 go_on low high (tri x y z ∷ ts) =
     let low' : ℕ = min x (min y z) in
     let high' : ℕ = max x (max y z) in
-    cond (nat_le (max high high' - min low low' + 1) 65535)
-    (onto (tri x y z) (go_on (min low low') (max high high') ts))
-    ([] ∷ onto (tri x y z) (go_on low' high' ts))
+    if nat_le (max high high' - min low low' + 1) 65535
+    then onto (tri x y z) (go_on (min low low') (max high high') ts)
+    else [] ∷ onto (tri x y z) (go_on low' high' ts)
 
 abbrev pub cut : List Triangle → List (List Triangle)
 cut [] = []

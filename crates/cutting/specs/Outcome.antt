@@ -1,5 +1,5 @@
 -- What cutting a finished mesh answers and leaves.
-use Rattle.std.specs.Prelude.{ℕ, ◌+◌, cond, List, [], ◌∷◌, ◌++◌, length, drop, Some, None, Ok, Err, Option, Result, nat_le}
+use Rattle.std.specs.Prelude.{ℕ, ◌+◌, if◌then◌else◌, List, [], ◌∷◌, ◌++◌, length, drop, Some, None, Ok, Err, Option, Result, nat_le}
 use Rattle.emath.specs.Answers.{Answer}
 use Rattle.tessellator.specs.State.{MeshState}
 use Rattle.tessellator.specs.Triangles.{Triangle, triples}
@@ -24,7 +24,7 @@ on_front xs memory = xs ++ drop (length xs) memory
 
 -- whether so many indices and parts have space
 abbrev pub space_for : ℕ → ℕ → ℕ → ℕ → Result (Unit {0}) CutFault
-space_for indices parts memory table = cond (nat_le indices memory) (cond (nat_le parts table) (Ok tt) (Err TableTooShort)) (Err NoIndexSpace)
+space_for indices parts memory table = if nat_le indices memory then (if nat_le parts table then Ok tt else Err TableTooShort) else Err NoIndexSpace
 
 -- A refusal leaves both memories as they were.
 abbrev pub placed_if : Result (Unit {0}) CutFault → List ℕ → List Part → List ℕ → List Part → Outcome
@@ -37,7 +37,7 @@ placed is ps indices parts = placed_if (space_for (length is) (length ps) (lengt
 -- the first triangle that no part can hold, where the first of the list has the number k
 abbrev pub too_wide : ℕ → List Triangle → Option ℕ
 too_wide k [] = None
-too_wide k (t ∷ ts) = cond (nat_le (span (t ∷ [])) 65535) (too_wide (k + 1) ts) (Some k)
+too_wide k (t ∷ ts) = if nat_le (span (t ∷ [])) 65535 then too_wide (k + 1) ts else Some k
 
 -- how many runs, where no triangle is too wide
 abbrev pub counted : Option ℕ → ℕ → Result ℕ CutFault
@@ -62,4 +62,4 @@ in_one m indices parts = placed m.indices (whole m ∷ []) indices parts
 
 -- up to 65,535 vertices are one part
 abbrev pub cutting : MeshState → List ℕ → List Part → Outcome
-cutting m indices parts = cond (nat_le (length m.vertices) 65535) (in_one m indices parts) (in_runs m indices parts)
+cutting m indices parts = if nat_le (length m.vertices) 65535 then in_one m indices parts else in_runs m indices parts

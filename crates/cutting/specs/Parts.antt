@@ -1,5 +1,5 @@
 -- The parts of a mesh, and their indices.
-use Rattle.std.specs.Prelude.{ℕ, ◌+◌, ◌-◌, ◌*◌, ◌<◌, ◌≤◌, min, cond, List, [], ◌∷◌, ◌++◌, map, length, take, drop, Some, None, Option, nat_le, slice_index}
+use Rattle.std.specs.Prelude.{ℕ, ◌+◌, ◌-◌, ◌*◌, ◌<◌, ◌≤◌, min, if◌then◌else◌, List, [], ◌∷◌, ◌++◌, map, length, take, drop, Some, None, Option, nat_le, slice_index}
 use Rattle.tessellator.specs.State.{MeshState}
 use Rattle.tessellator.specs.Triangles.{Triangle, tri, flat}
 use Rattle.ecolor.specs.declared.vertex.TextureId.{TextureId}
@@ -42,4 +42,4 @@ lowered (run ∷ runs) = less (least run) (flat run) ++ lowered runs
 -- the vertices of a part, where the mesh has them
 abbrev pub vertices_of : Part → List Vertex → Option (List Vertex)
 vertices_of p vs =
-    cond (nat_le (p.first_vertex + p.vertex_count) (length vs)) (Some (take p.vertex_count (drop p.first_vertex vs))) None
+    if nat_le (p.first_vertex + p.vertex_count) (length vs) then Some (take p.vertex_count (drop p.first_vertex vs)) else None

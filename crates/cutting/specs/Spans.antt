@@ -1,5 +1,5 @@
 -- The least and greatest index of some triangles.
-use Rattle.std.specs.Prelude.{ℕ, ◌+◌, ◌-◌, min, max, Bool, cond, Ok, Err, Result, nat_le}
+use Rattle.std.specs.Prelude.{ℕ, ◌+◌, ◌-◌, min, max, Bool, if◌then◌else◌, Ok, Err, Result, nat_le}
 use Rattle.tessellator.specs.Triangles.{Triangle, tri}
 use Rattle.cutting.specs.declared.fault.CutFault.{CutFault}
 use Rattle.cutting.specs.declared.span.Span.{Span}
@@ -18,4 +18,4 @@ abbrev pub narrow : Span → Bool
 narrow s = nat_le (width s) 65535
 
 abbrev pub if_narrow : ℕ → Span → Result Span CutFault
-if_narrow k s = cond (narrow s) (Ok s) (Err (CutFault.Span k))
+if_narrow k s = if narrow s then Ok s else Err (CutFault.Span k)

@@ -1,5 +1,5 @@
 -- What the bytes of a drawing file say.
-use Rattle.std.specs.Prelude.{◌≡◌, ℕ, ◌+◌, ◌*◌, ◌/◌, ◌%◌, cond, List, [], ◌∷◌, ◌++◌, length, take, drop, Ok, Err, Result, ◌==◌, nat_lt, slice_index}
+use Rattle.std.specs.Prelude.{◌≡◌, ℕ, ◌+◌, ◌*◌, ◌/◌, ◌%◌, if◌then◌else◌, List, [], ◌∷◌, ◌++◌, length, take, drop, Ok, Err, Result, ◌==◌, nat_lt, slice_index}
 use Rattle.drawing_file.specs.Faults.{Cause, cause_of}
 use Rattle.drawing_file.specs.declared.fault.FileFault.{FileFault}
 use Rattle.drawing_file.specs.declared.fault.FileFault.TheVariants.{CutShort, UnknownTag, WrongLength, UnknownKind}
@@ -21,15 +21,15 @@ read (Err fault) = Err (cause_of fault)
 
 -- places of eight bytes each
 abbrev pub line_of : List ℕ → Result Item Cause
-line_of b = cond (length b % 8 == 0) (Ok (line b)) (Err (cause_of WrongLength))
+line_of b = if length b % 8 == 0 then Ok (line b) else Err (cause_of WrongLength)
 
 -- the last byte is the kind
 abbrev pub painting : List ℕ → Result Item Cause
-painting b = cond (length b == 17) (cond (nat_lt 2 (slice_index b 16)) (Err (cause_of UnknownKind)) (Ok (paint b))) (Err (cause_of WrongLength))
+painting b = if length b == 17 then (if nat_lt 2 (slice_index b 16) then Err (cause_of UnknownKind) else Ok (paint b)) else Err (cause_of WrongLength)
 
 -- the record of a tag and its bytes
 abbrev pub sorted : ℕ → List ℕ → Result Item Cause
-sorted tag b = cond (tag == 2) (line_of b) (cond (tag == 5) (painting b) (Err (cause_of UnknownTag)))
+sorted tag b = if tag == 2 then line_of b else if tag == 5 then painting b else Err (cause_of UnknownTag)
 
 -- a paint has all its bytes
 abbrev pub Whole : Item → Type 0
@@ -47,7 +47,7 @@ followed (Err why) after = Err why
 
 -- the bytes behind the tag and the length n
 abbrev pub body : ℕ → ℕ → List ℕ → Result First Cause
-body tag n bytes = cond (nat_lt (length bytes) n) (Err (cause_of CutShort)) (followed (sorted tag (take n bytes)) (drop n bytes))
+body tag n bytes = if nat_lt (length bytes) n then Err (cause_of CutShort) else followed (sorted tag (take n bytes)) (drop n bytes)
 
 abbrev pub first_of : List ℕ → Result First Cause
 first_of [] = Err (cause_of CutShort)

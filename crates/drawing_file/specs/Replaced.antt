@@ -1,5 +1,5 @@
 -- A line record replaces the path.
-use Rattle.std.specs.Prelude.{ℕ, ◌/◌, cond, List, ◌++◌, length, drop, Result, nat_lt}
+use Rattle.std.specs.Prelude.{ℕ, ◌/◌, if◌then◌else◌, List, ◌++◌, length, drop, Result, nat_lt}
 use Rattle.emath.specs.Limits.{all_places}
 use Rattle.emath.specs.declared.plane.Pos2.{Pos2}
 use Rattle.path.specs.Builders.{Left, left, declined, line_added}
@@ -19,10 +19,10 @@ remains r path places = record { line = left r path; places = places }
 
 -- a line with more places than the memory holds is refused, for the same reasons and in the same order as by the path
 abbrev pub crowding : List ℕ → PathFault
-crowding b = cond (all_places (places_of b)) (cond (nat_lt (length b) 16) TooFewPoints NoSpace) OutOfLimits
+crowding b = if all_places (places_of b) then (if nat_lt (length b) 16 then TooFewPoints else NoSpace) else OutOfLimits
 
 abbrev pub replaced : List ℕ → Held PathPoint → List Pos2 → Replaced
 replaced b path memory =
-    cond (nat_lt (length memory) (length b / 8))
-    (record { line = declined (crowding b) (emptied path); places = memory })
-    (record { line = line_added (places_of b) (emptied path); places = places_of b ++ drop (length b / 8) memory })
+    if nat_lt (length memory) (length b / 8)
+    then record { line = declined (crowding b) (emptied path); places = memory }
+    else record { line = line_added (places_of b) (emptied path); places = places_of b ++ drop (length b / 8) memory }

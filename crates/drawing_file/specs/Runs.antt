@@ -1,5 +1,5 @@
 -- Running the records of a file.
-use Rattle.std.specs.Prelude.{ℕ, zero, suc, ◌+◌, ◌-◌, cond, List, length, Some, None, Ok, Err, Option, Result, ◌==◌, nat_lt}
+use Rattle.std.specs.Prelude.{ℕ, zero, suc, ◌+◌, ◌-◌, if◌then◌else◌, List, length, Some, None, Ok, Err, Option, Result, ◌==◌, nat_lt}
 use Rattle.emath.specs.declared.plane.Pos2.{Pos2}
 use Rattle.path.specs.Held.{Held, held, emptied}
 use Rattle.path.specs.declared.point.PathPoint.{PathPoint}
@@ -101,9 +101,9 @@ faulted fault s = then (Err (cause_of fault)) s
 abbrev pub painted : Waiting → RunState → Paint → Then (Result (Option Appended) Cause)
 painted Nothing s p = faulted PaintWithoutPath s
 painted OpenLine s p =
-    cond (is_transparent p.fill)
-    (stroked s (solid_outcome p.feathering p.stroke s.path s.mesh))
-    (faulted FilledOpenLine s)
+    if is_transparent p.fill
+    then stroked s (solid_outcome p.feathering p.stroke s.path s.mesh)
+    else faulted FilledOpenLine s
 
 -- one record: a paint answers the size of its figure
 abbrev pub stepped : RunState → Item → Then (Result (Option Appended) Cause)
@@ -163,7 +163,7 @@ turn account go at (Err why) s = account.refusal (record { cause = why; at = at 
 -- at most n records, one after the other
 abbrev pub records : {B : Type 0} → Account B → ℕ → RunState → B
 records account zero s = account.end s
-records account (suc n) s = cond (length s.rest == 0) (account.end s) (turn account (records account n) (at_byte s) (first_run s).answer (first_run s).state)
+records account (suc n) s = if length s.rest == 0 then account.end s else turn account (records account n) (at_byte s) (first_run s).answer (first_run s).state
 
 -- all of them: a record takes a byte at least
 abbrev pub along : {B : Type 0} → Account B → RunState → B
@@ -175,7 +175,7 @@ too_long = record { cause = cause_of CutShort; at = 49152 }
 
 -- of a file that has more than 49,152 bytes nothing is drawn
 abbrev pub file : {B : Type 0} → Account B → RunState → B
-file account s = cond (nat_lt 49152 s.size) (account.refusal too_long s) (along account s)
+file account s = if nat_lt 49152 s.size then account.refusal too_long s else along account s
 
 -- the first figure, or the end or the refusal before it
 abbrev pub first_figure : Account (Then (Result (Option Figure) Halt))

@@ -1,5 +1,5 @@
 -- The values in the bytes of a record.
-use Rattle.std.specs.Prelude.{ℕ, ◌+◌, ◌*◌, ◌/◌, cond, List, map, length, ◌==◌, from_bits, slice_index, Float}
+use Rattle.std.specs.Prelude.{ℕ, ◌+◌, ◌*◌, ◌/◌, if◌then◌else◌, List, map, length, ◌==◌, from_bits, slice_index, Float}
 use Rattle.std.specs.Float.{binary32}
 use Rattle.std.specs.List.{range_with_len}
 use Rattle.emath.specs.declared.plane.Pos2.{Pos2}
@@ -28,7 +28,7 @@ abbrev pub color : List ℕ → ℕ → Color32
 color b i = record { r = slice_index b i; g = slice_index b (i + 1); b = slice_index b (i + 2); a = slice_index b (i + 3) }
 
 abbrev pub kind : ℕ → StrokeKind
-kind byte = cond (byte == 0) Inside (cond (byte == 1) Middle Outside)
+kind byte = if byte == 0 then Inside else if byte == 1 then Middle else Outside
 
 abbrev pub solid : Color32 → Solid
 solid c = record { color = c }

@@ -1,5 +1,5 @@
 -- What a builder answers and leaves, in any memory: of paths and of lists of places.
-use Rattle.std.specs.Prelude.{ℕ, cond, ◌&&◌, List, [], ◌∷◌, map, length, Ok, Err, Result, nat_le, nat_lt, Float}
+use Rattle.std.specs.Prelude.{ℕ, if◌then◌else◌, ◌&&◌, List, [], ◌∷◌, map, length, Ok, Err, Result, nat_le, nat_lt, Float}
 use Rattle.emath.specs.Answers.{Answer}
 use Rattle.emath.specs.Limits.{is_place, all_places, is_distance, is_vector}
 use Rattle.emath.specs.declared.plane.Pos2.{Pos2}
@@ -33,7 +33,7 @@ unchanged fault h = record { answer = told (Err fault); after = h }
 
 -- What a call is to add stands behind `from`, if it fits there.
 abbrev pub put_behind : {X : Type 0} → Held X → Held X → Result (List X) PathFault → Change X
-put_behind from h (Ok xs) = cond (nat_le (length xs) (room from)) (record { answer = told (Ok tt); after = extended from xs }) (unchanged NoSpace h)
+put_behind from h (Ok xs) = if nat_le (length xs) (room from) then record { answer = told (Ok tt); after = extended from xs } else unchanged NoSpace h
 put_behind from h (Err fault) = unchanged fault h
 
 abbrev pub added : {X : Type 0} → Result (List X) PathFault → Held X → Change X
@@ -45,14 +45,14 @@ replaced what h = put_behind (emptied h) h what
 -- ---- what the calls are to add, or why they are refused
 
 abbrev pub one_point : Pos2 → Vec2 → Result (List PathPoint) PathFault
-one_point pos normal = cond (is_place pos && is_vector normal) (Ok (point pos normal ∷ [])) (Err OutOfLimits)
+one_point pos normal = if is_place pos && is_vector normal then Ok (point pos normal ∷ []) else Err OutOfLimits
 
 abbrev pub whole_circle : Pos2 → Float → Result (List PathPoint) PathFault
-whole_circle center radius = cond (is_place center && is_distance radius) (Ok (map (point_on center radius) (circle radius))) (Err OutOfLimits)
+whole_circle center radius = if is_place center && is_distance radius then Ok (map (point_on center radius) (circle radius)) else Err OutOfLimits
 
 -- a line or a loop over these places
 abbrev pub over_places : List Pos2 → List PathPoint → Result (List PathPoint) PathFault
-over_places places points = cond (all_places places) (cond (nat_lt (length places) 2) (Err TooFewPoints) (Ok points)) (Err OutOfLimits)
+over_places places points = if all_places places then (if nat_lt (length places) 2 then Err TooFewPoints else Ok points) else Err OutOfLimits
 
 abbrev pub open_line : List Pos2 → Result (List PathPoint) PathFault
 open_line places = over_places places (open_points places)
@@ -62,8 +62,8 @@ line_loop places = over_places places (loop_points places)
 
 abbrev pub one_quadrant : Pos2 → Float → ℕ → Result (List Pos2) PathFault
 one_quadrant center radius quadrant =
-    cond (is_place center && is_distance radius && nat_le quadrant 3) (Ok (quadrant_places center radius quadrant)) (Err OutOfLimits)
+    if is_place center && is_distance radius && nat_le quadrant 3 then Ok (quadrant_places center radius quadrant) else Err OutOfLimits
 
 abbrev pub rounded_rectangle : Rect → CornerRadiusF32 → Result (List Pos2) PathFault
 rounded_rectangle rect radii =
-    cond (is_place rect.min && is_place rect.max && are_radii radii) (Ok (rounded rect (clamped_radii rect radii))) (Err OutOfLimits)
+    if is_place rect.min && is_place rect.max && are_radii radii then Ok (rounded rect (clamped_radii rect radii)) else Err OutOfLimits

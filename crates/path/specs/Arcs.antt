@@ -1,5 +1,5 @@
 -- Quadrants of circles, and rectangles with rounded corners.
-use Rattle.std.specs.Prelude.{ℕ, ◌+◌, ◌-◌, ◌*◌, ◌≤◌, Bool, cond, ◌&&◌, List, [], ◌∷◌, ◌++◌, map, length, take, drop, from_bits, Float}
+use Rattle.std.specs.Prelude.{ℕ, ◌+◌, ◌-◌, ◌*◌, ◌≤◌, Bool, if◌then◌else◌, ◌&&◌, List, [], ◌∷◌, ◌++◌, map, length, take, drop, from_bits, Float}
 use Rattle.std.specs.Float.Ieee.{add, sub, mul, le, eq}
 use Rattle.std.specs.Float.{float_min, float_max, binary32}
 use Rattle.emath.specs.Limits.{is_distance}
@@ -18,19 +18,19 @@ use Rattle.path.specs.declared.corner_radius.CornerRadiusF32.{CornerRadiusF32}
 abbrev pub quadrant_places : Pos2 → Float → ℕ → List Pos2
 quadrant_places center radius quadrant =
     let steps = quarter_steps radius in
-    cond (le radius plane.zero) (center ∷ []) (map (place_on center radius) (take (steps + 1) (drop (quadrant * steps) (circle radius))))
+    if le radius plane.zero then center ∷ [] else map (place_on center radius) (take (steps + 1) (drop (quadrant * steps) (circle radius)))
 
 abbrev pub quadrant_count : Float → ℕ
-quadrant_count radius = cond (le radius plane.zero) 1 (quarter_steps radius + 1)
+quadrant_count radius = if le radius plane.zero then 1 else quarter_steps radius + 1
 
 abbrev pub but_last : List Pos2 → List Pos2
 but_last ps = take (length ps - 1) ps
 
 abbrev pub arc_places : Arc → List Pos2
-arc_places a = let places = quadrant_places a.center a.radius a.quadrant in cond a.drops_last (but_last places) places
+arc_places a = let places = quadrant_places a.center a.radius a.quadrant in if a.drops_last then but_last places else places
 
 abbrev pub arc_count : Arc → ℕ
-arc_count a = cond a.drops_last (quadrant_count a.radius - 1) (quadrant_count a.radius)
+arc_count a = if a.drops_last then quadrant_count a.radius - 1 else quadrant_count a.radius
 
 -- ---- radii
 
@@ -85,8 +85,8 @@ abbrev pub joined_count : Corners → ℕ
 joined_count k = arc_count k.se + arc_count k.sw + arc_count k.nw + arc_count k.ne
 
 abbrev pub rounded : Rect → CornerRadiusF32 → List Pos2
-rounded r k = cond (no_radii k) (square r) (joined (corners_of r k))
+rounded r k = if no_radii k then square r else joined (corners_of r k)
 
 -- Four places without radii. With one, those of the four quadrants, less one for each that drops its last.
 abbrev pub rounded_count : Rect → CornerRadiusF32 → ℕ
-rounded_count r k = cond (no_radii k) 4 (joined_count (corners_of r k))
+rounded_count r k = if no_radii k then 4 else joined_count (corners_of r k)

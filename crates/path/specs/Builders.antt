@@ -1,5 +1,5 @@
 -- What a path builder answers and leaves.
-use Rattle.std.specs.Prelude.{◌≡◌, ℕ, cond, ◌&&◌, List, [], ◌∷◌, length, Ok, Err, Result, nat_le, nat_lt}
+use Rattle.std.specs.Prelude.{◌≡◌, ℕ, if◌then◌else◌, ◌&&◌, List, [], ◌∷◌, length, Ok, Err, Result, nat_le, nat_lt}
 use Rattle.emath.specs.Answers as Answers
 use Rattle.emath.specs.Answers.{Answer}
 use Rattle.emath.specs.Limits.{is_place, all_places, is_vector}
@@ -24,19 +24,19 @@ abbrev pub declined : PathFault → Held PathPoint → Left
 declined fault h = record { answer = told (Err fault); path = h }
 
 abbrev pub reserved : ℕ → ℕ → Result (Unit {0}) PathFault
-reserved n space = cond (nat_le n space) (Ok tt) (Err NoSpace)
+reserved n space = if nat_le n space then Ok tt else Err NoSpace
 
 abbrev pub appended : Held PathPoint → List PathPoint → Left
-appended h ps = cond (nat_le (length ps) (room h)) (record { answer = told (Ok tt); path = extended h ps }) (declined NoSpace h)
+appended h ps = if nat_le (length ps) (room h) then record { answer = told (Ok tt); path = extended h ps } else declined NoSpace h
 
 abbrev pub point_added : Pos2 → Vec2 → Held PathPoint → Left
-point_added pos normal h = cond (is_place pos && is_vector normal) (appended h (point pos normal ∷ [])) (declined OutOfLimits h)
+point_added pos normal h = if is_place pos && is_vector normal then appended h (point pos normal ∷ []) else declined OutOfLimits h
 
 abbrev pub line_added : List Pos2 → Held PathPoint → Left
 line_added places h =
-    cond (all_places places)
-    (cond (nat_lt (length places) 2) (declined TooFewPoints h) (appended h (open_points places)))
-    (declined OutOfLimits h)
+    if all_places places
+    then (if nat_lt (length places) 2 then declined TooFewPoints h else appended h (open_points places))
+    else declined OutOfLimits h
 
 -- ---- what every builder keeps to
 

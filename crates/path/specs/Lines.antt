@@ -1,5 +1,5 @@
 -- The path points of open lines and of loops.
-use Rattle.std.specs.Prelude.{ℕ, Bool, cond, ◌&&◌, List, [], ◌∷◌, ◌++◌, from_bits}
+use Rattle.std.specs.Prelude.{ℕ, Bool, if◌then◌else◌, ◌&&◌, List, [], ◌∷◌, ◌++◌, from_bits}
 use Rattle.std.specs.Float.{binary32}
 use Rattle.std.specs.Float.Ieee.{lt, eq}
 use Rattle.emath.specs.Plane as plane
@@ -23,10 +23,10 @@ edge_normal a b = plane.rot90 (plane.normalized (plane.from b a))
 
 -- The normals of the two edges that meet at a corner. An edge of no length takes the other's.
 abbrev pub before : Vec2 → Vec2 → Vec2
-before n m = cond (is_zero n) m n
+before n m = if is_zero n then m else n
 
 abbrev pub after : Vec2 → Vec2 → Vec2
-after n m = cond (is_zero n) m (cond (is_zero m) n m)
+after n m = if is_zero n then m else if is_zero m then n else m
 
 abbrev pub half_sum : Vec2 → Vec2 → Vec2
 half_sum n m = plane.over (plane.plus n m) plane.two
@@ -41,7 +41,7 @@ is_sharp middle = lt (plane.length_sq middle) (from_bits binary32 0x3F00_0000)
 -- such a corner is cut off
 abbrev pub corner_at : Vec2 → Vec2 → Vec2 → Corner
 corner_at middle n m =
-    cond (is_sharp middle) (Cut (scaled (half_sum n (plane.normalized middle))) (scaled (half_sum m (plane.normalized middle)))) (Mitre (scaled middle))
+    if is_sharp middle then Cut (scaled (half_sum n (plane.normalized middle))) (scaled (half_sum m (plane.normalized middle))) else Mitre (scaled middle)
 
 abbrev pub corner_of : Vec2 → Vec2 → Corner
 corner_of n m = corner_at (half_sum n m) n m

@@ -1,5 +1,5 @@
 -- The winding of a path, and the path turned.
-use Rattle.std.specs.Prelude.{◌-◌, cond, List, [], ◌∷◌, map, reverse, length, from_bits, slice_index_or, Float}
+use Rattle.std.specs.Prelude.{◌-◌, if◌then◌else◌, List, [], ◌∷◌, map, reverse, length, from_bits, slice_index_or, Float}
 use Rattle.std.specs.Float.{binary64, nan}
 use Rattle.std.specs.Float.Ieee.{add, sub, mul, lt}
 use Rattle.emath.specs.Plane as plane
@@ -26,4 +26,4 @@ abbrev pub flipped : PathPoint → PathPoint
 flipped p = record { pos = p.pos; normal = plane.opposite p.normal }
 
 abbrev pub turned : List PathPoint → List PathPoint
-turned points = cond (lt (area points) (from_bits binary64 0)) (map flipped (reverse points)) points
+turned points = if lt (area points) (from_bits binary64 0) then map flipped (reverse points) else points

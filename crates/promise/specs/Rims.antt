@@ -1,5 +1,5 @@
 -- The edges of triangles, and the rim of each kind of figure. Of two vertices that an edge joins, the lesser is named first.
-use Rattle.std.specs.Prelude.{◌≡◌, ℕ, ◌+◌, ◌-◌, ◌*◌, ◌<◌, Bool, cond, ◌&&◌, ◌||◌, ◌⊎◌, List, [], ◌∷◌, ◌==◌}
+use Rattle.std.specs.Prelude.{◌≡◌, ℕ, ◌+◌, ◌-◌, ◌*◌, ◌<◌, Bool, if◌then◌else◌, ◌&&◌, ◌||◌, ◌⊎◌, List, [], ◌∷◌, ◌==◌}
 use Rattle.tessellator.specs.Kinds.{rows}
 use Rattle.tessellator.specs.Triangles.{Triangle, tri}
 use Rattle.tessellator.specs.declared.kind.Kind.{Kind}
@@ -16,7 +16,7 @@ corner u (tri x y z) = x == u || (y == u || z == u)
 -- how many triangles of the list have both u and v as corners
 abbrev pub shared : ℕ → ℕ → List Triangle → ℕ
 shared u v [] = 0
-shared u v (t ∷ ts) = cond (corner u t && corner v t) 1 0 + shared u v ts
+shared u v (t ∷ ts) = (if corner u t && corner v t then 1 else 0) + shared u v ts
 
 -- two different corners of one triangle
 abbrev pub Edge : List Triangle → ℕ → ℕ → Type 0

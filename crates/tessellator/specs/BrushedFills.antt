@@ -1,5 +1,5 @@
 -- The figures of fills, for whatever makes the vertices.
-use Rattle.std.specs.Prelude.{ℕ, Bool, cond, ◌&&◌, ◌||◌, List, length, nat_lt, Float}
+use Rattle.std.specs.Prelude.{ℕ, Bool, if◌then◌else◌, ◌&&◌, ◌||◌, List, length, nat_lt, Float}
 use Rattle.std.specs.Float.Ieee.{lt}
 use Rattle.emath.specs.Limits.{is_distance}
 use Rattle.emath.specs.Plane as plane
@@ -25,14 +25,14 @@ abbrev pub is_fill_empty : Color32 → ℕ → Bool
 is_fill_empty color n = is_transparent color || nat_lt n 3
 
 abbrev pub fill_kind : Float → Color32 → ℕ → Kind
-fill_kind feathering color n = cond (is_fill_empty color n) Nothing (cond (lt plane.zero feathering) FeatheredFill HardFill)
+fill_kind feathering color n = if is_fill_empty color n then Nothing else if lt plane.zero feathering then FeatheredFill else HardFill
 
 -- a feathered fill is of points that run clockwise
 abbrev pub filled_with : (Paint → Pos2 → Vertex) → Float → Color32 → List PathPoint → Figure
 filled_with brush feathering color points =
-    cond (is_fill_empty color (length points)) (nothing points)
-    (cond (lt plane.zero feathering) (shaped FeatheredFill (turned points) (brushed_rows brush (feathered_fill_rows feathering color) (turned points)))
-    (shaped HardFill points (brushed_rows brush (hard_fill_rows color) points)))
+    if is_fill_empty color (length points) then nothing points
+    else if lt plane.zero feathering then shaped FeatheredFill (turned points) (brushed_rows brush (feathered_fill_rows feathering color) (turned points))
+    else shaped HardFill points (brushed_rows brush (hard_fill_rows color) points)
 
 abbrev pub plain_fill : Float → Color32 → List PathPoint → Figure
 plain_fill feathering color points = filled_with plain feathering color points

@@ -1,5 +1,5 @@
 -- The figures of strokes, open and closed, for whatever makes the vertices.
-use Rattle.std.specs.Prelude.{ℕ, ◌-◌, cond, not, ◌&&◌, ◌||◌, List, ◌++◌, map, length, take, drop, Option, nat_lt, Float}
+use Rattle.std.specs.Prelude.{ℕ, ◌-◌, if◌then◌else◌, not, ◌&&◌, ◌||◌, List, ◌++◌, map, length, take, drop, Option, nat_lt, Float}
 use Rattle.std.specs.Float.{binary32}
 use Rattle.std.specs.Float.Ieee.{sub, neg, lt, eq}
 use Rattle.emath.specs.Answers.{Answer}
@@ -46,7 +46,7 @@ course_of Closed = Around transparent
 
 -- clockwise, where the fill or the kind asks for an inside
 abbrev pub faced_by : Course → StrokeKind → List PathPoint → List PathPoint
-faced_by course kind points = cond (not (is_transparent (fill_of course)) || (is_loop course && not (is_middle kind))) (turned points) points
+faced_by course kind points = if not (is_transparent (fill_of course)) || (is_loop course && not (is_middle kind)) then turned points else points
 
 abbrev pub middle_faced : Pen → List PathPoint → List PathPoint
 middle_faced pen points = centred pen.kind pen.width (faced_by pen.course pen.kind points)
@@ -56,7 +56,7 @@ middle_faced pen points = centred pen.kind pen.width (faced_by pen.course pen.ki
 -- a filled thin stroke lies further out, so that the filled area stays as it is
 abbrev pub swelled : Float → Float → Color32 → List PathPoint → List PathPoint
 swelled feathering width fill points =
-    cond (is_transparent fill) points (cond (lt width feathering) (map (moved (Outward (half (sub binary32 feathering width)))) points) points)
+    if is_transparent fill then points else if lt width feathering then map (moved (Outward (half (sub binary32 feathering width)))) points else points
 
 -- the vertices of a thick line, whose ends are feathered too
 abbrev pub brushed_thick_line : Float → Float → (Paint → Pos2 → Vertex) → List PathPoint → List Vertex
@@ -71,7 +71,7 @@ brushed_thick_vertices (Around fill) feathering width brush points = brushed_row
 
 -- the points of a visible fill within a hard stroke, whose vertices follow the stroke's
 abbrev pub inset : Float → Color32 → List PathPoint → List PathPoint
-inset width fill points = cond (is_transparent fill) points (map (moved (Inward (half width))) points)
+inset width fill points = if is_transparent fill then points else map (moved (Inward (half width))) points
 
 -- a stroke over points that lie in its middle
 abbrev pub stroke_with : Style → (Paint → Pos2 → Vertex) → Float → Float → Course → List PathPoint → Figure
@@ -93,17 +93,17 @@ brushed_along pen points = stroke_with (style_of pen.feathering pen.width) (brus
 -- fewer than two points give nothing, and a stroke of no width or of no colour gives only the fill
 abbrev pub brushed_figure : Pen → List PathPoint → Figure
 brushed_figure pen points =
-    cond (nat_lt (length points) 2) (nothing points)
-    (cond (eq pen.width plane.zero) (plain_fill pen.feathering (fill_of pen.course) points)
-    (cond (is_clear pen.plain) (plain_fill pen.feathering (fill_of pen.course) (shrunk pen.kind pen.width (faced_by pen.course pen.kind points)))
-    (brushed_along pen (middle_faced pen points))))
+    if nat_lt (length points) 2 then nothing points
+    else if eq pen.width plane.zero then plain_fill pen.feathering (fill_of pen.course) points
+    else if is_clear pen.plain then plain_fill pen.feathering (fill_of pen.course) (shrunk pen.kind pen.width (faced_by pen.course pen.kind points))
+    else brushed_along pen (middle_faced pen points)
 
 -- what kind of figure that is, for n points
 abbrev pub stroke_kind : Pen → ℕ → Kind
 stroke_kind pen n =
-    cond (nat_lt n 2) Nothing
-    (cond (eq pen.width plane.zero || is_clear pen.plain) (fill_kind pen.feathering (fill_of pen.course) n)
-    (kind_of (style_of pen.feathering pen.width) pen.course n))
+    if nat_lt n 2 then Nothing
+    else if eq pen.width plane.zero || is_clear pen.plain then fill_kind pen.feathering (fill_of pen.course) n
+    else kind_of (style_of pen.feathering pen.width) pen.course n
 
 -- ---- the calls
 

@@ -1,5 +1,5 @@
 -- The figure of a fill.
-use Rattle.std.specs.Prelude.{Bool, cond, ◌||◌, List, [], ◌∷◌, length, from_bits, nat_lt, Float}
+use Rattle.std.specs.Prelude.{Bool, if◌then◌else◌, ◌||◌, List, [], ◌∷◌, length, from_bits, nat_lt, Float}
 use Rattle.std.specs.Float.{binary32}
 use Rattle.std.specs.Float.Ieee.{mul, lt}
 use Rattle.emath.specs.Plane as plane
@@ -41,5 +41,5 @@ abbrev pub is_unfilled : Color32 → List PathPoint → Bool
 is_unfilled color points = is_transparent color || nat_lt (length points) 3
 
 abbrev pub fill_figure : Float → Color32 → List PathPoint → Figure
-fill_figure feathering color points = cond (is_unfilled color points) (nothing points)
-    (cond (lt plane.zero feathering) (feathered_fill feathering color (turned points)) (hard_fill color points))
+fill_figure feathering color points = if is_unfilled color points then nothing points
+    else if lt plane.zero feathering then feathered_fill feathering color (turned points) else hard_fill color points

@@ -1,5 +1,5 @@
 -- What any draw leaves, from the figure that it stands for.
-use Rattle.std.specs.Prelude.{◌≡◌, ℕ, ◌+◌, ◌*◌, ◌≤◌, Bool, true, cond, ◌&&◌, ◌||◌, List, [], ◌∷◌, length, take, drop, Some, None, Ok, Err, Option, Result, ◌==◌, nat_le, nat_lt}
+use Rattle.std.specs.Prelude.{◌≡◌, ℕ, ◌+◌, ◌*◌, ◌≤◌, Bool, true, if◌then◌else◌, ◌&&◌, ◌||◌, List, [], ◌∷◌, length, take, drop, Some, None, Ok, Err, Option, Result, ◌==◌, nat_le, nat_lt}
 use Rattle.emath.specs.Answers as Answers
 use Rattle.emath.specs.Answers.{Answer}
 use Rattle.emath.specs.Limits.{is_place}
@@ -71,15 +71,15 @@ drawn figure path mesh = record { answer = told (Ok (size_of figure)); path = pa
 -- why a mesh cannot take so many vertices and indices
 abbrev pub refusal_of : Appended → MeshState → Option FigureFault
 refusal_of size mesh =
-    cond (size.vertices == 0 || is_default mesh.texture)
-    (cond (nat_le size.vertices (vertex_room mesh))
-    (cond (nat_le size.indices (index_room mesh)) None (Some NoIndexSpace))
-    (Some NoVertexSpace))
-    (Some OtherTexture)
+    if size.vertices == 0 || is_default mesh.texture
+    then (if nat_le size.vertices (vertex_room mesh)
+    then (if nat_le size.indices (index_room mesh) then None else Some NoIndexSpace)
+    else Some NoVertexSpace)
+    else Some OtherTexture
 
 -- the same of space alone
 abbrev pub space_refusal : Appended → MeshState → Option FigureFault
-space_refusal size mesh = cond (nat_le size.vertices (vertex_room mesh)) (cond (nat_le size.indices (index_room mesh)) None (Some NoIndexSpace)) (Some NoVertexSpace)
+space_refusal size mesh = if nat_le size.vertices (vertex_room mesh) then (if nat_le size.indices (index_room mesh) then None else Some NoIndexSpace) else Some NoVertexSpace
 
 -- there is space for a figure of this kind and of n points
 pub record KindFits (kind : Kind) (n : ℕ) (mesh : MeshState) : Type 0 where
@@ -96,17 +96,17 @@ settled (Some fault) figure path mesh = refused fault path mesh
 
 -- `allowed` says that the arguments and the places of the path are within their limits
 abbrev pub outcome : Bool → Figure → Held PathPoint → MeshState → Outcome
-outcome allowed figure path mesh = cond allowed (settled (refusal_of (size_of figure) mesh) figure path mesh) (refused OutOfLimits path mesh)
+outcome allowed figure path mesh = if allowed then settled (refusal_of (size_of figure) mesh) figure path mesh else refused OutOfLimits path mesh
 
 -- what sizing answers
 abbrev pub sizing : Bool → Figure → Answer Appended
-sizing allowed figure = cond allowed (told (Ok (size_of figure))) (told (Err OutOfLimits))
+sizing allowed figure = if allowed then told (Ok (size_of figure)) else told (Err OutOfLimits)
 
 -- ---- textured fills
 
 -- Why a mesh with a texture of its own, unless it is empty, cannot take so many vertices and indices.
 abbrev pub refusal_under : TextureId → Appended → MeshState → Option FigureFault
-refusal_under texture size mesh = cond (is_empty mesh || same_texture mesh.texture texture) (space_refusal size mesh) (Some OtherTexture)
+refusal_under texture size mesh = if is_empty mesh || same_texture mesh.texture texture then space_refusal size mesh else Some OtherTexture
 
 -- an empty mesh takes the texture
 abbrev pub textured_settled : Option FigureFault → TextureId → Figure → Held PathPoint → MeshState → Outcome
@@ -117,11 +117,11 @@ textured_settled (Some fault) texture figure path mesh = refused fault path mesh
 -- Nothing at all is done of a transparent fill, and one of fewer than three points is refused.
 abbrev pub textured_outcome : Bool → Color32 → TextureId → Figure → Held PathPoint → MeshState → Outcome
 textured_outcome allowed color texture figure path mesh =
-    cond allowed
-    (cond (is_transparent color)
-    (record { answer = told (Ok (size_of (nothing path.used))); path = path; mesh = mesh })
-    (textured_settled (cond (nat_lt (length path.used) 3) (Some TooFewPoints) (refusal_under texture (size_of figure) mesh)) texture figure path mesh))
-    (refused OutOfLimits path mesh)
+    if allowed
+    then (if is_transparent color
+    then record { answer = told (Ok (size_of (nothing path.used))); path = path; mesh = mesh }
+    else textured_settled (if nat_lt (length path.used) 3 then Some TooFewPoints else refusal_under texture (size_of figure) mesh) texture figure path mesh)
+    else refused OutOfLimits path mesh
 
 -- ---- appending another mesh
 
@@ -145,17 +145,17 @@ joined_after r mesh = record { answer = told r; mesh = mesh_state mesh }
 
 abbrev pub one_vertex : Pos2 → Color32 → MeshState → Joining
 one_vertex pos color mesh =
-    cond (is_place pos)
-    (joined_as (refusal_of (record { vertices = 1; indices = 0 }) mesh) (with_vertices mesh (untextured pos color ∷ [])) mesh)
-    (record { answer = told (Err OutOfLimits); mesh = mesh })
+    if is_place pos
+    then joined_as (refusal_of (record { vertices = 1; indices = 0 }) mesh) (with_vertices mesh (untextured pos color ∷ [])) mesh
+    else record { answer = told (Err OutOfLimits); mesh = mesh }
 
 -- an index that names no vertex is refused before the space is asked for
 abbrev pub one_triangle : ℕ → ℕ → ℕ → MeshState → Joining
 one_triangle a b c mesh =
     let n = length mesh.vertices in
-    cond (nat_lt a n && (nat_lt b n && nat_lt c n))
-    (cond (nat_le 3 (index_room mesh)) (record { answer = told (Ok tt); mesh = with_triangles 0 mesh (tri a b c ∷ []) }) (record { answer = told (Err NoIndexSpace); mesh = mesh }))
-    (record { answer = told (Err NoVertex); mesh = mesh })
+    if nat_lt a n && (nat_lt b n && nat_lt c n)
+    then (if nat_le 3 (index_room mesh) then record { answer = told (Ok tt); mesh = with_triangles 0 mesh (tri a b c ∷ []) } else record { answer = told (Err NoIndexSpace); mesh = mesh })
+    else record { answer = told (Err NoVertex); mesh = mesh }
 
 -- ---- what every draw keeps to
 

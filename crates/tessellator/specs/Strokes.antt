@@ -1,5 +1,5 @@
 -- The figures of strokes.
-use Rattle.std.specs.Prelude.{ℕ, ◌+◌, ◌-◌, ◌*◌, ◌≤◌, Bool, true, false, cond, not, ◌&&◌, ◌||◌, List, [], ◌∷◌, ◌++◌, map, length, take, drop, Some, None, Option, from_bits, nat_lt, Float}
+use Rattle.std.specs.Prelude.{ℕ, ◌+◌, ◌-◌, ◌*◌, ◌≤◌, Bool, true, false, if◌then◌else◌, not, ◌&&◌, ◌||◌, List, [], ◌∷◌, ◌++◌, map, length, take, drop, Some, None, Option, from_bits, nat_lt, Float}
 use Rattle.std.specs.Float.{binary32}
 use Rattle.std.specs.Float.Ieee.{sub, mul, div, neg, le, lt, eq}
 use Rattle.emath.specs.Answers.{Answer}
@@ -74,7 +74,7 @@ hard_rows width =
 -- without feathering hard, else thin up to 0.9 of the feathering
 abbrev pub style_of : Float → Float → Style
 style_of feathering width =
-    cond (lt plane.zero feathering) (cond (le width (mul binary32 (from_bits binary32 0x3F66_6666) feathering)) Thin Thick) Hard
+    if lt plane.zero feathering then (if le width (mul binary32 (from_bits binary32 0x3F66_6666) feathering) then Thin else Thick) else Hard
 
 -- ---- what a stroke is drawn with
 
@@ -88,13 +88,13 @@ is_loop (Around fill) = true
 
 -- a hard stroke of two points has no fill within
 abbrev pub filled_kind : Style → ℕ → Kind
-filled_kind Hard n = cond (nat_lt n 3) (Loop Hard) (Filled Hard)
+filled_kind Hard n = if nat_lt n 3 then Loop Hard else Filled Hard
 filled_kind Thin n = Filled Thin
 filled_kind Thick n = Filled Thick
 
 abbrev pub kind_of : Style → Course → ℕ → Kind
 kind_of style Unjoined n = Line style
-kind_of style (Around fill) n = cond (is_transparent fill) (Loop style) (filled_kind style n)
+kind_of style (Around fill) n = if is_transparent fill then Loop style else filled_kind style n
 
 pub record Pen : Type 0 where
   pub feathering : Float
@@ -114,7 +114,7 @@ is_middle Outside = false
 -- clockwise, where the fill or the kind asks for an inside
 abbrev pub faced : Pen → List PathPoint → List PathPoint
 faced pen points =
-    cond (not (is_transparent (fill_of pen.course)) || (is_loop pen.course && not (is_middle pen.kind))) (turned points) points
+    if not (is_transparent (fill_of pen.course)) || (is_loop pen.course && not (is_middle pen.kind)) then turned points else points
 
 abbrev pub centred : StrokeKind → Float → List PathPoint → List PathPoint
 centred Inside width points = map (moved (Inward (half width))) points
@@ -143,8 +143,8 @@ rule_on pen points = pen.colour (stroke_box pen.feathering pen.width points)
 -- a filled thin stroke lies further out, so that the filled area stays as it is
 abbrev pub swollen : Pen → List PathPoint → List PathPoint
 swollen pen points =
-    cond (is_transparent (fill_of pen.course)) points
-    (cond (lt pen.width pen.feathering) (map (moved (Outward (half (sub binary32 pen.feathering pen.width)))) points) points)
+    if is_transparent (fill_of pen.course) then points
+    else if lt pen.width pen.feathering then map (moved (Outward (half (sub binary32 pen.feathering pen.width)))) points else points
 
 -- the vertices of a thick line, whose ends are feathered too
 abbrev pub thick_line : Float → Float → (Pos2 → Color32) → List PathPoint → List Vertex
@@ -185,7 +185,7 @@ thick_stroke pen points =
 
 -- the points of a visible fill within a hard stroke, whose vertices follow the stroke's
 abbrev pub hard_inside : Pen → List PathPoint → List PathPoint
-hard_inside pen points = cond (is_transparent (fill_of pen.course)) points (map (moved (Inward (half pen.width))) points)
+hard_inside pen points = if is_transparent (fill_of pen.course) then points else map (moved (Inward (half pen.width))) points
 
 abbrev pub hard_vertices : Course → Pen → (Pos2 → Color32) → List PathPoint → List Vertex
 hard_vertices Unjoined pen rule points = row_vertices rule (hard_rows pen.width) points
@@ -207,10 +207,10 @@ stroke_along pen points = stroke_in (style_of pen.feathering pen.width) pen poin
 -- fewer than two points give nothing, and a stroke of no width or of no colour gives only the fill
 abbrev pub stroke_figure : Pen → List PathPoint → Figure
 stroke_figure pen points =
-    cond (nat_lt (length points) 2) (nothing points)
-    (cond (eq pen.width plane.zero) (fill_figure pen.feathering (fill_of pen.course) points)
-    (cond (is_clear pen.plain) (fill_figure pen.feathering (fill_of pen.course) (shrunk pen.kind pen.width (faced pen points)))
-    (stroke_along pen (middle_of pen points))))
+    if nat_lt (length points) 2 then nothing points
+    else if eq pen.width plane.zero then fill_figure pen.feathering (fill_of pen.course) points
+    else if is_clear pen.plain then fill_figure pen.feathering (fill_of pen.course) (shrunk pen.kind pen.width (faced pen points))
+    else stroke_along pen (middle_of pen points)
 
 -- ---- the calls
 
