@@ -2,8 +2,7 @@
 use Rattle.std.proofs.Common.{◌≡◌, ℕ, ◌≤◌, Bool, true, false, cond, leb, List, ◌++◌, length, Ok, Err, Result, sym, refl, ap, ◌∙◌, subst, arith, length-append}
 use Rattle.std.proofs.lemmas.Bool.{cond-true, cond-false, le-leb, leb-true}
 use Rattle.emath.specs.Answers.{Answer, accepted}
-use Rattle.path.specs.Adding.{Change, unchanged, put_behind, added, replaced}
-use Rattle.path.specs.Builders.{reserved}
+use Rattle.path.specs.Builders.{Change, unchanged, put_behind, added, replaced, reserved}
 use Rattle.path.specs.Held.{Held, emptied, extended, room}
 use Rattle.path.specs.Laws.{Same, Keeps}
 use Rattle.path.specs.declared.fault.PathFault.{PathFault}
@@ -12,6 +11,13 @@ use Rattle.path.specs.declared.fault.PathFault.TheVariants.{NoSpace}
 refused_for : (fits : Bool) (fault : PathFault) → ◌≡◌ {A = Result (Unit {0}) PathFault} (Err fault) (cond fits (Ok tt) (Err NoSpace)) → (fits ≡ false) × (fault ≡ NoSpace)
 refused_for true fault e = absurd (let z : ◌≡◌ {A = ℕ} 0 1 = cc in omega arith)
 refused_for false fault e = (refl, cc)
+
+space_where : (n space : ℕ) (fits : Bool) → leb n space ≡ fits → ◌≡◌ {A = Result (Unit {0}) PathFault} (Ok tt) (cond fits (Ok tt) (Err NoSpace)) → n ≤ space
+space_where n space true e ok = leb-true n space e
+space_where n space false e ok = absurd (let z : ◌≡◌ {A = ℕ} 0 1 = cc in omega arith)
+
+pub space_for : (n space : ℕ) → Ok tt ≡ reserved n space → n ≤ space
+space_for n space ok = space_where n space (leb n space) refl ok
 
 -- ---- what a call answers and leaves that is to add xs
 

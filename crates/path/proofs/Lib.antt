@@ -5,4 +5,3 @@ pub mod Extending
 pub mod Growing
 pub mod Loops
 pub mod Turning
-mod Retold

@@ -6,7 +6,7 @@ use Rattle.emath.specs.declared.plane.Vec2.{Vec2}
 use Rattle.path.specs.Held.{Held, extended}
 use Rattle.path.specs.Laws.{At}
 use Rattle.path.specs.Lines.{point, edge_normal, bend_of, loop_corners, last_of, loop_points}
-use Rattle.path.specs.declared.line.Bend.{Bend}
+use Rattle.path.specs.declared.line.Turn.{Turn}
 use Rattle.path.specs.declared.point.PathPoint.{PathPoint}
 use Rattle.path.proofs.Growing.{Growing, goes_on, ends}
 
@@ -30,26 +30,26 @@ last_is : (p : Pos2) (qs : List Pos2) (d : Pos2) → get_or (p ∷ qs) (length q
 last_is p [] d = refl
 last_is p (q ∷ qs) d = last_is q qs d
 
--- a loop, cut as the code cuts it
-pub loop_in_parts : (ps : List Pos2) (d : Pos2) → 2 ≤ length ps →
+-- a loop of two places and more, cut as the code cuts it
+pub in_parts : (ps : List Pos2) (d : Pos2) → 2 ≤ length ps →
     let closing = edge_normal (get_or ps (length ps - 1) d) (get_or ps 0 d) in loop_corners closing closing (get_or ps 0 d) (take (length ps - 1) (drop 1 ps)) ≡ loop_points ps
-loop_in_parts [] d h = absurd (omega arith)
-loop_in_parts (p ∷ qs) d h =
+in_parts [] d h = absurd (omega arith)
+in_parts (p ∷ qs) d h =
     let last : length (p ∷ qs) - 1 ≡ length qs = omega arith in
     ap (λ k. let closing = edge_normal (get_or (p ∷ qs) k d) p in loop_corners closing closing p (take k qs)) last
     ∙ ap (λ l. let closing = edge_normal (get_or (p ∷ qs) (length qs) d) p in loop_corners closing closing p l) (take_all (length qs) qs (omega arith))
     ∙ ap (λ l. loop_corners (edge_normal l p) (edge_normal l p) p qs) (last_is p qs d)
 
-module _ {start : Held PathPoint} {all : List PathPoint} {at : Held PathPoint} (closing n : Vec2) (p : Pos2) (b : Bend) where
+module _ {start : Held PathPoint} {all : List PathPoint} {at : Held PathPoint} (closing n : Vec2) (p : Pos2) (b : Turn Vec2) where
   -- one corner
   pub bend_goes_on : (q : Pos2) (qs : List Pos2) (m : Vec2) (next : Held PathPoint) → m ≡ edge_normal p q → b ≡ bend_of n m →
-      Growing start all at (loop_corners closing n p (q ∷ qs)) → next ≡ extended at (point p b.mitre ∷ []) → Growing start all next (loop_corners closing b.normal q qs)
+      Growing start all at (loop_corners closing n p (q ∷ qs)) → next ≡ extended at (point p b.joint ∷ []) → Growing start all next (loop_corners closing b.normal q qs)
   bend_goes_on q qs m next em eb w =
-      subst (λ (v : Bend). next ≡ extended at (point p v.mitre ∷ []) → Growing start all next (loop_corners closing v.normal q qs)) (sym (eb ∙ ap (bend_of n) em))
+      subst (λ (v : Turn Vec2). next ≡ extended at (point p v.joint ∷ []) → Growing start all next (loop_corners closing v.normal q qs)) (sym (eb ∙ ap (bend_of n) em))
       (λ e. goes_on (_ ∷ []) _ next w e)
 
   -- the last one
-  pub bend_ends : (next : Held PathPoint) → b ≡ bend_of n closing → Growing start all at (loop_corners closing n p []) → next ≡ extended at (point p b.mitre ∷ []) → next ≡ extended start all
+  pub bend_ends : (next : Held PathPoint) → b ≡ bend_of n closing → Growing start all at (loop_corners closing n p []) → next ≡ extended at (point p b.joint ∷ []) → next ≡ extended start all
   bend_ends next eb w =
-      subst (λ (v : Bend). next ≡ extended at (point p v.mitre ∷ []) → next ≡ extended start all) (sym eb)
+      subst (λ (v : Turn Vec2). next ≡ extended at (point p v.joint ∷ []) → next ≡ extended start all) (sym eb)
       (λ e. ends (goes_on (_ ∷ []) [] next w e))

@@ -1,5 +1,5 @@
 -- Quadrants of circles, and rectangles with rounded corners.
-use Rattle.std.specs.Prelude.{ℕ, ◌+◌, ◌-◌, ◌*◌, ◌≤◌, Bool, if◌then◌else◌, ◌&&◌, List, [], ◌∷◌, ◌++◌, map, length, take, drop, from_bits, Float}
+use Rattle.std.specs.Prelude.{ℕ, zero, suc, ◌+◌, ◌-◌, ◌*◌, Bool, if◌then◌else◌, ◌&&◌, List, [], ◌∷◌, ◌++◌, map, length, take, drop, Ok, Err, Result, from_bits, Float}
 use Rattle.std.specs.Float.Ieee.{add, sub, mul, le, eq}
 use Rattle.std.specs.Float.{float_min, float_max, binary32}
 use Rattle.emath.specs.Limits.{is_distance}
@@ -10,7 +10,11 @@ use Rattle.circles.specs.Circles.{circle, quarter_steps}
 use Rattle.path.specs.Circling.{place_on}
 use Rattle.path.specs.declared.arc.Arc.{Arc}
 use Rattle.path.specs.declared.arc.Corners.{Corners}
+use Rattle.path.specs.declared.arc.Quadrant.{Quadrant}
+use Rattle.path.specs.declared.arc.Quadrant.TheVariants.{SouthEast, SouthWest, NorthWest, NorthEast}
 use Rattle.path.specs.declared.corner_radius.CornerRadiusF32.{CornerRadiusF32}
+use Rattle.path.specs.declared.fault.PathFault.{PathFault}
+use Rattle.path.specs.declared.fault.PathFault.TheVariants.{OutOfLimits}
 
 -- ---- quadrants
 
@@ -26,11 +30,25 @@ quadrant_count radius = if le radius plane.zero then 1 else quarter_steps radius
 abbrev pub but_last : List Pos2 → List Pos2
 but_last ps = take (length ps - 1) ps
 
+-- the quadrants by their numbers
+abbrev pub quadrant_of : ℕ → Result Quadrant PathFault
+quadrant_of zero = Ok SouthEast
+quadrant_of (suc zero) = Ok SouthWest
+quadrant_of (suc (suc zero)) = Ok NorthWest
+quadrant_of (suc (suc (suc zero))) = Ok NorthEast
+quadrant_of (suc (suc (suc (suc n)))) = Err OutOfLimits
+
+abbrev pub number_of : Quadrant → ℕ
+number_of SouthEast = 0
+number_of SouthWest = 1
+number_of NorthWest = 2
+number_of NorthEast = 3
+
 abbrev pub arc_places : Arc → List Pos2
-arc_places a = let places = quadrant_places a.center a.radius a.quadrant in if a.drops_last then but_last places else places
+arc_places a = let places = quadrant_places a.circle.center a.circle.radius (number_of a.quadrant) in if a.drops_last then but_last places else places
 
 abbrev pub arc_count : Arc → ℕ
-arc_count a = if a.drops_last then quadrant_count a.radius - 1 else quadrant_count a.radius
+arc_count a = if a.drops_last then quadrant_count a.circle.radius - 1 else quadrant_count a.circle.radius
 
 -- ---- radii
 
@@ -60,18 +78,11 @@ meet r side a b = le side (add binary32 (add binary32 a b) (mul binary32 (from_b
 abbrev pub corners_of : Rect → CornerRadiusF32 → Corners
 corners_of r k =
     record {
-      se = record { center = record { x = sub binary32 r.max.x k.se; y = sub binary32 r.max.y k.se }; radius = k.se; quadrant = 0; drops_last = meet r (plane.width r) k.se k.sw };
-      sw = record { center = record { x = add binary32 r.min.x k.sw; y = sub binary32 r.max.y k.sw }; radius = k.sw; quadrant = 1; drops_last = meet r (plane.height r) k.sw k.nw };
-      nw = record { center = record { x = add binary32 r.min.x k.nw; y = add binary32 r.min.y k.nw }; radius = k.nw; quadrant = 2; drops_last = meet r (plane.width r) k.nw k.ne };
-      ne = record { center = record { x = sub binary32 r.max.x k.ne; y = add binary32 r.min.y k.ne }; radius = k.ne; quadrant = 3; drops_last = meet r (plane.height r) k.ne k.se };
+      se = record { circle = record { center = record { x = sub binary32 r.max.x k.se; y = sub binary32 r.max.y k.se }; radius = k.se }; quadrant = SouthEast; drops_last = meet r (plane.width r) k.se k.sw };
+      sw = record { circle = record { center = record { x = add binary32 r.min.x k.sw; y = sub binary32 r.max.y k.sw }; radius = k.sw }; quadrant = SouthWest; drops_last = meet r (plane.height r) k.sw k.nw };
+      nw = record { circle = record { center = record { x = add binary32 r.min.x k.nw; y = add binary32 r.min.y k.nw }; radius = k.nw }; quadrant = NorthWest; drops_last = meet r (plane.width r) k.nw k.ne };
+      ne = record { circle = record { center = record { x = sub binary32 r.max.x k.ne; y = add binary32 r.min.y k.ne }; radius = k.ne }; quadrant = NorthEast; drops_last = meet r (plane.height r) k.ne k.se };
     }
-
--- each corner is one of the four quadrants
-pub record Quadrants (k : Corners) : Type 0 where
-  pub se : k.se.quadrant ≤ 3
-  pub sw : k.sw.quadrant ≤ 3
-  pub nw : k.nw.quadrant ≤ 3
-  pub ne : k.ne.quadrant ≤ 3
 
 -- the four corners, from the north west on
 abbrev pub square : Rect → List Pos2

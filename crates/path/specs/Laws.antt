@@ -1,10 +1,12 @@
 -- What every builder keeps to.
-use Rattle.std.specs.Prelude.{◌≡◌, ℕ, ◌≤◌, List, map, length, Result}
+use Rattle.std.specs.Prelude.{◌≡◌, ℕ, ◌≤◌, List, [], ◌∷◌, map, length, Result}
 use Rattle.emath.specs.Answers.{Answer, accepted, refused}
 use Rattle.emath.specs.declared.plane.Pos2.{Pos2}
-use Rattle.path.specs.Adding.{Change, added, replaced}
+use Rattle.emath.specs.declared.plane.Vec2.{Vec2}
+use Rattle.path.specs.Builders.{Change, added, replaced}
 use Rattle.path.specs.Faults.{told}
 use Rattle.path.specs.Held.{Held, emptied, extended, held}
+use Rattle.path.specs.Lines.{point}
 use Rattle.path.specs.declared.fault.PathFault.{PathFault}
 use Rattle.path.specs.declared.point.PathPoint.{PathPoint}
 use Rattle.path.specs.declared.slice_vec.SliceVec.{SliceVec}
@@ -33,6 +35,12 @@ Elsewhere call (refused number values) before after = Unit {0}
 pub record Keeps {X : Type 0} (Kind : List X → Type 0) (call : Held X → Change X) (from : Held X) (answer : Answer (Unit {0})) (before after : Held X) : Type 0 where
   pub extends : GrowsBy Kind from answer before after
   pub elsewhere : Elsewhere call answer before after
+
+-- points that lie at these places, in order: at each one point, or two where a corner is cut off
+pub data Along : List Pos2 → List PathPoint → Type 0 where
+  done : Along [] []
+  once : (p : Pos2) (n : Vec2) {places : List Pos2} {points : List PathPoint} → Along places points → Along (p ∷ places) (point p n ∷ points)
+  twice : (p : Pos2) (n m : Vec2) {places : List Pos2} {points : List PathPoint} → Along places points → Along (p ∷ places) (point p n ∷ point p m ∷ points)
 
 -- points that lie at these places, one at each
 abbrev pub At : List Pos2 → List PathPoint → Type 0

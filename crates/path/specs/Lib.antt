@@ -1,4 +1,3 @@
-pub mod Adding
 pub mod Arcs
 pub mod Builders
 pub mod Circling

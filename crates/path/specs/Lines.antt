@@ -8,7 +8,6 @@ use Rattle.emath.specs.declared.plane.Vec2.{Vec2}
 use Rattle.path.specs.declared.point.PathPoint.{PathPoint}
 use Rattle.path.specs.declared.line.Corner.{Corner}
 use Rattle.path.specs.declared.line.Corner.TheVariants.{Mitre, Cut}
-use Rattle.path.specs.declared.line.Bend.{Bend}
 use Rattle.path.specs.declared.line.Turn.{Turn}
 
 abbrev pub point : Pos2 → Vec2 → PathPoint
@@ -54,13 +53,19 @@ abbrev pub corner_count : Corner → ℕ
 corner_count (Mitre n) = 1
 corner_count (Cut n m) = 2
 
--- what an edge with the normal m makes of the corner after one with the normal n
-abbrev pub turn_of : Vec2 → Vec2 → Turn
-turn_of n m = record { corner = corner_of (before n m) (after n m); normal = after n m }
+-- a corner of a loop is never cut off
+abbrev pub mitre_of : Vec2 → Vec2 → Vec2
+mitre_of n m = scaled (half_sum n m)
 
--- the same at a corner of a loop, which is never cut off
-abbrev pub bend_of : Vec2 → Vec2 → Bend
-bend_of n m = record { mitre = scaled (half_sum (before n m) (after n m)); normal = after n m }
+-- What an edge with the normal m makes of the corner after one with the normal n, where `joins` says what two normals make.
+abbrev pub turn_by : {J : Type 0} → (Vec2 → Vec2 → J) → Vec2 → Vec2 → Turn J
+turn_by joins n m = record { joint = joins (before n m) (after n m); normal = after n m }
+
+abbrev pub turn_of : Vec2 → Vec2 → Turn Corner
+turn_of n m = turn_by corner_of n m
+
+abbrev pub bend_of : Vec2 → Vec2 → Turn Vec2
+bend_of n m = turn_by mitre_of n m
 
 -- ---- open lines
 
@@ -68,7 +73,7 @@ bend_of n m = record { mitre = scaled (half_sum (before n m) (after n m)); norma
 abbrev pub open_corners : Vec2 → Vec2 → Pos2 → List Pos2 → List PathPoint
 open_corners n edge p [] = point p edge ∷ []
 open_corners n edge p (q ∷ qs) =
-    let m = edge_normal p q in corner_points p (turn_of n m).corner ++ open_corners (turn_of n m).normal m q qs
+    let m = edge_normal p q in corner_points p (turn_of n m).joint ++ open_corners (turn_of n m).normal m q qs
 
 abbrev pub open_points : List Pos2 → List PathPoint
 open_points [] = []
@@ -79,8 +84,8 @@ open_points (p ∷ q ∷ qs) = let m = edge_normal p q in point p m ∷ open_cor
 
 -- The points of a loop from p on, which an edge with the normal n reaches. `closing` is the normal of the edge from the last place to the first.
 abbrev pub loop_corners : Vec2 → Vec2 → Pos2 → List Pos2 → List PathPoint
-loop_corners closing n p [] = point p (bend_of n closing).mitre ∷ []
-loop_corners closing n p (q ∷ qs) = let b = bend_of n (edge_normal p q) in point p b.mitre ∷ loop_corners closing b.normal q qs
+loop_corners closing n p [] = point p (bend_of n closing).joint ∷ []
+loop_corners closing n p (q ∷ qs) = let b = bend_of n (edge_normal p q) in point p b.joint ∷ loop_corners closing b.normal q qs
 
 abbrev pub last_of : Pos2 → List Pos2 → Pos2
 last_of p [] = p

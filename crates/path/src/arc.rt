@@ -3,17 +3,43 @@ ghost use Rattle.std.specs.Prelude.{◌≡◌, ◌≤◌};
 ghost use Rattle.path.specs.Arcs as arcs;
 
 use crate::corner_radius::CornerRadiusF32;
+use crate::fault::PathFault;
+use crate::on_circle::Circle;
 use circles::circle_for;
 use emath::plane::Pos2;
 use emath::rect::Rect;
 
+/// A quarter of a circle, by where it lies of the center. South is towards greater y, east towards greater x.
+#[derive(Clone, Copy)]
+pub(crate) enum Quadrant {
+    SouthEast,
+    SouthWest,
+    NorthWest,
+    NorthEast,
+}
+
+/// By its number.
+impl TryFrom<u8> for Quadrant {
+    type Error = PathFault;
+
+    ghost try_from_gives = { λ n r. r ≡ arcs.quadrant_of n };
+
+    fn try_from(value: u8) -> Result<Quadrant, PathFault> {
+        match value {
+            0 => Ok(Quadrant::SouthEast),
+            1 => Ok(Quadrant::SouthWest),
+            2 => Ok(Quadrant::NorthWest),
+            3 => Ok(Quadrant::NorthEast),
+            _ => Err(PathFault::OutOfLimits),
+        }
+    }
+}
+
 /// A quadrant of a circle, with its last place or without it.
-/// Quadrant 0 is south east of the center, 1 south west, 2 north west, 3 north east.
 #[derive(Clone, Copy)]
 pub(crate) struct Arc {
-    pub(crate) center: Pos2,
-    pub(crate) radius: f32,
-    pub(crate) quadrant: u8,
+    pub(crate) circle: Circle,
+    pub(crate) quadrant: Quadrant,
     pub(crate) drops_last: bool,
 }
 
@@ -41,69 +67,91 @@ pub(crate) fn corners_of(rect: Rect, radii: CornerRadiusF32) -> Corners
     let height = rect.height();
     Corners {
         se: Arc {
-            center: Pos2 {
-                x: max.x - se,
-                y: max.y - se,
+            circle: Circle {
+                center: Pos2 {
+                    x: max.x - se,
+                    y: max.y - se,
+                },
+                radius: se,
             },
-            radius: se,
-            quadrant: 0,
+            quadrant: Quadrant::SouthEast,
             drops_last: corners_meet(rect, width, se, sw),
         },
         sw: Arc {
-            center: Pos2 {
-                x: min.x + sw,
-                y: max.y - sw,
+            circle: Circle {
+                center: Pos2 {
+                    x: min.x + sw,
+                    y: max.y - sw,
+                },
+                radius: sw,
             },
-            radius: sw,
-            quadrant: 1,
+            quadrant: Quadrant::SouthWest,
             drops_last: corners_meet(rect, height, sw, nw),
         },
         nw: Arc {
-            center: Pos2 {
-                x: min.x + nw,
-                y: min.y + nw,
+            circle: Circle {
+                center: Pos2 {
+                    x: min.x + nw,
+                    y: min.y + nw,
+                },
+                radius: nw,
             },
-            radius: nw,
-            quadrant: 2,
+            quadrant: Quadrant::NorthWest,
             drops_last: corners_meet(rect, width, nw, ne),
         },
         ne: Arc {
-            center: Pos2 {
-                x: max.x - ne,
-                y: min.y + ne,
+            circle: Circle {
+                center: Pos2 {
+                    x: max.x - ne,
+                    y: min.y + ne,
+                },
+                radius: ne,
             },
-            radius: ne,
-            quadrant: 3,
+            quadrant: Quadrant::NorthEast,
             drops_last: corners_meet(rect, height, ne, se),
         },
     }
 }
 
-/// How many places a whole quadrant has.
-fn quadrant_count(radius: f32) -> usize
-    ensures count { result ≡ arcs.quadrant_count radius }
-    ensures some { 1 ≤ result }
-    ensures few { result ≤ 33 }
-{
-    if radius <= 0.0 {
-        1
-    } else {
-        circle_for(radius).len() / 4 + 1
+impl Quadrant {
+    /// How many quadrants of a circle lie before it.
+    pub(crate) fn number(self) -> usize
+        ensures number { result ≡ arcs.number_of self }
+        ensures few { result ≤ 3 }
+    {
+        self as usize
     }
 }
 
-/// How many places an arc has.
-pub(crate) fn arc_count(arc: Arc) -> usize
-    ensures count { result ≡ arcs.arc_count arc }
-    ensures few { result ≤ 33 }
-{
-    let whole = quadrant_count(arc.radius);
-    if arc.drops_last { whole - 1 } else { whole }
+impl Arc {
+    /// How many places a whole quadrant has.
+    fn whole_count(self) -> usize
+        ensures count { result ≡ arcs.quadrant_count self.circle.radius }
+        ensures some { 1 ≤ result }
+        ensures few { result ≤ 33 }
+    {
+        if self.circle.radius <= 0.0 {
+            1
+        } else {
+            circle_for(self.circle.radius).len() / 4 + 1
+        }
+    }
+
+    /// How many places the arc has.
+    pub(crate) fn count(self) -> usize
+        ensures count { result ≡ arcs.arc_count self }
+        ensures few { result ≤ 33 }
+    {
+        let whole = self.whole_count();
+        if self.drops_last { whole - 1 } else { whole }
+    }
 }
 
-/// How many places the four corners have.
-pub(crate) fn joined_count(corners: Corners) -> usize
-    ensures { result ≡ arcs.joined_count corners }
-{
-    arc_count(corners.se) + arc_count(corners.sw) + arc_count(corners.nw) + arc_count(corners.ne)
+impl Corners {
+    /// How many places the four corners have.
+    pub(crate) fn count(self) -> usize
+        ensures { result ≡ arcs.joined_count self }
+    {
+        self.se.count() + self.sw.count() + self.nw.count() + self.ne.count()
+    }
 }

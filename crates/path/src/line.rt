@@ -1,5 +1,6 @@
 //! The corners of lines.
 ghost use Rattle.std.specs.Prelude.{◌≡◌, ◌≤◌, List, ◌∷◌, length};
+ghost use Rattle.emath.specs.declared.plane.Vec2.{Vec2};
 ghost use Rattle.path.specs.Lines as lines;
 
 use emath::plane::*;
@@ -11,18 +12,19 @@ pub(crate) enum Corner {
     Cut(Vec2, Vec2),
 }
 
-/// A corner of an open line, and the normal that the edge after it is taken to have.
+/// What stands where two edges meet, and the normal that the second is taken to have.
 #[derive(Clone, Copy)]
-pub(crate) struct Turn {
-    pub(crate) corner: Corner,
+pub(crate) struct Turn<J> {
+    pub(crate) joint: J,
     pub(crate) normal: Vec2,
 }
 
-/// A corner of a loop, which is never cut off, and the normal that the edge after it is taken to have.
-#[derive(Clone, Copy)]
-pub(crate) struct Bend {
-    pub(crate) mitre: Vec2,
-    pub(crate) normal: Vec2,
+/// What two normals make where their edges meet.
+pub(crate) trait Joint: Copy {
+    ghost joins: { Vec2 → Vec2 → Self };
+
+    fn between(n0: Vec2, n1: Vec2) -> Self
+        ensures { result ≡ joins n0 n1 };
 }
 
 fn is_zero(v: Vec2) -> bool
@@ -63,37 +65,40 @@ fn scaled(n: Vec2) -> Vec2
     n / n.length_sq()
 }
 
-/// A corner sharper than a right angle is cut off.
-fn corner_between(n0: Vec2, n1: Vec2) -> Corner
-    ensures { result ≡ lines.corner_of n0 n1 }
-{
-    let middle = half_sum(n0, n1);
-    let length_sq = middle.length_sq();
-    if length_sq < 0.5 {
-        let center = middle.normalized();
-        Corner::Cut(scaled(half_sum(n0, center)), scaled(half_sum(n1, center)))
-    } else {
-        Corner::Mitre(middle / length_sq)
+/// A corner of an open line. One sharper than a right angle is cut off.
+impl Joint for Corner {
+    ghost joins = { lines.corner_of };
+
+    fn between(n0: Vec2, n1: Vec2) -> Corner {
+        let middle = half_sum(n0, n1);
+        let length_sq = middle.length_sq();
+        if length_sq < 0.5 {
+            let center = middle.normalized();
+            Corner::Cut(scaled(half_sum(n0, center)), scaled(half_sum(n1, center)))
+        } else {
+            Corner::Mitre(middle / length_sq)
+        }
     }
 }
 
-pub(crate) fn turn_between(n0: Vec2, n1: Vec2) -> Turn
-    ensures { result ≡ lines.turn_of n0 n1 }
-{
-    let (n0, n1) = meeting(n0, n1);
-    Turn {
-        corner: corner_between(n0, n1),
-        normal: n1,
+/// The normal at a corner of a loop, which is never cut off.
+impl Joint for Vec2 {
+    ghost joins = { lines.mitre_of };
+
+    fn between(n0: Vec2, n1: Vec2) -> Vec2 {
+        scaled(half_sum(n0, n1))
     }
 }
 
-pub(crate) fn bend_between(n0: Vec2, n1: Vec2) -> Bend
-    ensures { result ≡ lines.bend_of n0 n1 }
-{
-    let (n0, n1) = meeting(n0, n1);
-    Bend {
-        mitre: scaled(half_sum(n0, n1)),
-        normal: n1,
+impl<J: Joint> Turn<J> {
+    pub(crate) fn between(n0: Vec2, n1: Vec2) -> Turn<J>
+        ensures { result ≡ lines.turn_by J.joins n0 n1 }
+    {
+        let (n0, n1) = meeting(n0, n1);
+        Turn {
+            joint: J::between(n0, n1),
+            normal: n1,
+        }
     }
 }
 
@@ -115,8 +120,8 @@ pub(crate) fn open_count(first: Pos2, second: Pos2, rest: &[Pos2]) -> usize
     let mut normal = edge_normal(first, second);
     let mut at = second;
     for next in rest {
-        let turn = turn_between(normal, edge_normal(at, *next));
-        count += corner_count(turn.corner);
+        let turn = Turn::<Corner>::between(normal, edge_normal(at, *next));
+        count += corner_count(turn.joint);
         normal = turn.normal;
         at = *next;
     }

@@ -1,17 +1,16 @@
 //! Building paths. A builder that refuses leaves the path as it was.
 ghost use Rattle.std.specs.Prelude.{◌≡◌, ◌+◌, ◌≤◌, [], ◌∷◌, length};
-ghost use Rattle.path.specs.Adding.{change, added, one_point, whole_circle, open_line, line_loop};
-ghost use Rattle.path.specs.Builders.{Along, Extends, left, reserved, point_added, line_added};
+ghost use Rattle.path.specs.Builders.{change, added, reserved, one_point, whole_circle, open_line, line_loop};
 ghost use Rattle.path.specs.Circling.{Circled};
-ghost use Rattle.path.specs.Faults.{told};
 ghost use Rattle.path.specs.Held.{held, extended, room};
-ghost use Rattle.path.specs.Laws.{Adds, At};
+ghost use Rattle.path.specs.Laws.{Adds, Along, At};
 ghost use Rattle.path.specs.Lines.{corner_points, edge_normal, loop_corners, open_points};
 
 use super::Path;
 use crate::fault::PathFault;
 use crate::line;
-use crate::line::Corner;
+use crate::line::{Corner, Turn};
+use crate::on_circle::Circle;
 use crate::point::PathPoint;
 use circles::circle_for;
 use emath::limits::{all_places, is_distance, is_place, is_vector};
@@ -20,8 +19,7 @@ use emath::plane::{Pos2, Vec2};
 impl<'a> Path<'a> {
     /// One point with its normal.
     pub fn add_point(&mut self, pos: Pos2, normal: Vec2) -> Result<(), PathFault>
-        ensures outcome { left result self.new ≡ point_added pos normal (held self.old) }
-        ensures extends { Extends (told result) (pos ∷ []) (held self.old) (held self.new) }
+        ensures outcome { change result self.new ≡ added (one_point pos normal) (held self.old) }
         ensures adds { Adds (Along (pos ∷ [])) (one_point pos normal) result self.old self.new }
     {
         if !is_place(pos) || !is_vector(normal) {
@@ -42,14 +40,13 @@ impl<'a> Path<'a> {
         }
         let directions = circle_for(radius);
         self.reserve(directions.len())?;
-        self.push_on_circle(center, radius, directions);
+        self.push_on_circle(Circle { center, radius }, directions);
         Ok(())
     }
 
     /// A straight line between two places.
     pub fn add_line_segment(&mut self, a: Pos2, b: Pos2) -> Result<(), PathFault>
-        ensures outcome { left result self.new ≡ line_added (a ∷ b ∷ []) (held self.old) }
-        ensures extends { Extends (told result) (a ∷ b ∷ []) (held self.old) (held self.new) }
+        ensures outcome { change result self.new ≡ added (open_line (a ∷ b ∷ [])) (held self.old) }
         ensures adds { Adds (Along (a ∷ b ∷ [])) (open_line (a ∷ b ∷ [])) result self.old self.new }
     {
         if !is_place(a) || !is_place(b) {
@@ -64,18 +61,17 @@ impl<'a> Path<'a> {
 
     /// An open line over the places. A corner sharper than a right angle gets two points.
     pub fn add_open_points(&mut self, places: &[Pos2]) -> Result<(), PathFault>
-        ensures outcome { left result self.new ≡ line_added places.now (held self.old) }
-        ensures extends { Extends (told result) places.now (held self.old) (held self.new) }
+        ensures outcome { change result self.new ≡ added (open_line places.now) (held self.old) }
         ensures adds { Adds (Along places.now) (open_line places.now) result self.old self.new }
     {
         if !all_places(places) {
             return Err(PathFault::OutOfLimits);
         }
-        if places.len() < 2 {
+        let [first, second, rest @ ..] = places else {
             return Err(PathFault::TooFewPoints);
-        }
-        self.reserve_open(places[0], places[1], &places[2..])?;
-        self.push_open(places[0], places[1], &places[2..]);
+        };
+        self.reserve_open(*first, *second, rest)?;
+        self.push_open(*first, *second, rest);
         Ok(())
     }
 
@@ -103,8 +99,8 @@ impl<'a> Path<'a> {
         self.push(PathPoint { pos: first, normal });
         for next in rest {
             edge = line::edge_normal(at, *next);
-            let turn = line::turn_between(normal, edge);
-            self.push_corner(at, turn.corner);
+            let turn = Turn::<Corner>::between(normal, edge);
+            self.push_corner(at, turn.joint);
             normal = turn.normal;
             at = *next;
         }
@@ -141,12 +137,11 @@ impl<'a> Path<'a> {
         if !all_places(places) {
             return Err(PathFault::OutOfLimits);
         }
-        let n = places.len();
-        if n < 2 {
+        let [first, .., last] = places else {
             return Err(PathFault::TooFewPoints);
-        }
-        self.reserve(n)?;
-        self.push_loop(places[n - 1], places[0], &places[1..]);
+        };
+        self.reserve(places.len())?;
+        self.push_loop(*last, *first, &places[1..]);
         Ok(())
     }
 
@@ -158,17 +153,17 @@ impl<'a> Path<'a> {
         let mut normal = closing;
         let mut at = first;
         for next in rest {
-            let bend = line::bend_between(normal, line::edge_normal(at, *next));
+            let turn = Turn::<Vec2>::between(normal, line::edge_normal(at, *next));
             self.push(PathPoint {
                 pos: at,
-                normal: bend.mitre,
+                normal: turn.joint,
             });
-            normal = bend.normal;
+            normal = turn.normal;
             at = *next;
         }
         self.push(PathPoint {
             pos: at,
-            normal: line::bend_between(normal, closing).mitre,
+            normal: Turn::<Vec2>::between(normal, closing).joint,
         });
     }
 }

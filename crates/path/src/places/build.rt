@@ -1,15 +1,15 @@
 //! Building lists of places. A call that refuses leaves the list as it was.
 ghost use Rattle.std.specs.Prelude.{◌≡◌, ◌≤◌, length, Ok};
-ghost use Rattle.path.specs.Arcs.{Quadrants, quadrant_count, arc_places, square, joined, clamped_radii, rounded_count};
-ghost use Rattle.path.specs.Adding.{change, added, replaced, one_quadrant, rounded_rectangle};
+ghost use Rattle.path.specs.Arcs.{quadrant_count, arc_places, square, joined, clamped_radii, rounded_count};
+ghost use Rattle.path.specs.Builders.{change, added, replaced, one_quadrant, rounded_rectangle};
 ghost use Rattle.path.specs.Held.{held, extended, room};
 ghost use Rattle.path.specs.Laws.{Adds, Replaces, Numbering};
 
 use super::Places;
-use crate::arc;
-use crate::arc::{Arc, Corners};
+use crate::arc::{Arc, Corners, Quadrant, corners_of};
 use crate::corner_radius::CornerRadiusF32;
 use crate::fault::PathFault;
+use crate::on_circle::Circle;
 use circles::circle_for;
 use emath::limits::{is_distance, is_place};
 use emath::plane::Pos2;
@@ -26,34 +26,34 @@ impl<'a> Places<'a> {
         ensures outcome { change result self.new ≡ added (one_quadrant center radius quadrant) (held self.old) }
         ensures adds { Adds (Numbering (quadrant_count radius)) (one_quadrant center radius quadrant) result self.old self.new }
     {
-        if !is_place(center) || !is_distance(radius) || quadrant > 3 {
+        if !is_place(center) || !is_distance(radius) {
             return Err(PathFault::OutOfLimits);
         }
         let arc = Arc {
-            center,
-            radius,
-            quadrant,
+            circle: Circle { center, radius },
+            quadrant: Quadrant::try_from(quadrant)?,
             drops_last: false,
         };
-        self.reserve(arc::arc_count(arc))?;
+        self.reserve(arc.count())?;
         self.push_arc(arc);
         Ok(())
     }
 
     fn push_arc(&mut self, arc: Arc)
-        requires { (arc.quadrant ≤ 3) × (length (arc_places arc) ≤ room (held self.old)) }
+        requires { length (arc_places arc) ≤ room (held self.old) }
         ensures { held self.new ≡ extended (held self.old) (arc_places arc) }
     {
-        if arc.radius <= 0.0 {
+        let circle = arc.circle;
+        if circle.radius <= 0.0 {
             if !arc.drops_last {
-                self.push(arc.center);
+                self.push(circle.center);
             }
             return;
         }
-        let directions = circle_for(arc.radius);
-        let first = arc.quadrant as usize * (directions.len() / 4);
-        let end = first + arc::arc_count(arc);
-        self.push_on_circle(arc.center, arc.radius, &directions[first..end]);
+        let directions = circle_for(circle.radius);
+        let first = arc.quadrant.number() * (directions.len() / 4);
+        let end = first + arc.count();
+        self.push_on_circle(circle, &directions[first..end]);
     }
 
     /// A rectangle with rounded corners, in place of what the list had.
@@ -68,7 +68,7 @@ impl<'a> Places<'a> {
         if radii.is_zero() {
             self.replace_by_square(rect)
         } else {
-            self.replace_by_corners(arc::corners_of(rect, radii))
+            self.replace_by_corners(corners_of(rect, radii))
         }
     }
 
@@ -93,17 +93,16 @@ impl<'a> Places<'a> {
     }
 
     fn replace_by_corners(&mut self, corners: Corners) -> Result<(), PathFault>
-        requires { Quadrants corners }
         ensures { change result self.new ≡ replaced (Ok (joined corners)) (held self.old) }
     {
-        self.reserve_all(arc::joined_count(corners))?;
+        self.reserve_all(corners.count())?;
         self.clear();
         self.push_corners(corners);
         Ok(())
     }
 
     fn push_corners(&mut self, corners: Corners)
-        requires { (Quadrants corners) × (length (joined corners) ≤ room (held self.old)) }
+        requires { length (joined corners) ≤ room (held self.old) }
         ensures { held self.new ≡ extended (held self.old) (joined corners) }
     {
         self.push_arc(corners.se);

@@ -3,16 +3,16 @@ ghost use Rattle.std.specs.Prelude.{◌≡◌, ◌≤◌, map, length};
 ghost use Rattle.path.specs.Held.{held, extended, room};
 
 use super::SliceVec;
-use crate::on_circle::OnCircle;
-use emath::plane::{Pos2, Vec2};
+use crate::on_circle::{Circle, OnCircle};
+use emath::plane::Vec2;
 
 impl<'a, T: OnCircle> SliceVec<'a, T> {
-    pub(crate) fn push_on_circle(&mut self, center: Pos2, radius: f32, directions: &[Vec2])
+    pub(crate) fn push_on_circle(&mut self, circle: Circle, directions: &[Vec2])
         requires { length directions.now ≤ room (held self.old) }
-        ensures { held self.new ≡ extended (held self.old) (map (T.standing center radius) directions.now) }
+        ensures { held self.new ≡ extended (held self.old) (map (T.standing circle.center circle.radius) directions.now) }
     {
         for direction in directions {
-            self.push(T::on_circle(center, radius, *direction));
+            self.push(T::on_circle(circle, *direction));
         }
     }
 }

@@ -8,6 +8,16 @@ use crate::fault::PathFault;
 
 const MAX_ITEMS: usize = 1_048_576;
 
+/// Refuses more items than there is space for.
+fn check_space(count: usize, space: usize) -> Result<(), PathFault>
+    ensures { result ≡ reserved count space }
+{
+    if count > space {
+        return Err(PathFault::NoSpace);
+    }
+    Ok(())
+}
+
 impl<'a, T: Copy> SliceVec<'a, T> {
     /// An empty list in lent memory.
     pub fn new(items: &'a mut [T]) -> SliceVec<'a, T>
@@ -48,20 +58,14 @@ impl<'a, T: Copy> SliceVec<'a, T> {
     pub(crate) fn reserve(&self, additional: usize) -> Result<(), PathFault>
         ensures { result ≡ reserved additional (room (held self.now)) }
     {
-        if additional > self.space() {
-            return Err(PathFault::NoSpace);
-        }
-        Ok(())
+        check_space(additional, self.space())
     }
 
     /// Refuses where there is no space for so many items in place of those in use.
     pub(crate) fn reserve_all(&self, count: usize) -> Result<(), PathFault>
         ensures { result ≡ reserved count (room (emptied (held self.now))) }
     {
-        if count > self.capacity() {
-            return Err(PathFault::NoSpace);
-        }
-        Ok(())
+        check_space(count, self.capacity())
     }
 
     pub(crate) fn push(&mut self, item: T)

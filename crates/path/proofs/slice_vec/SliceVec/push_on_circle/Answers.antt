@@ -10,12 +10,12 @@ loop-direction-init g c = begins _ _ (simp length-map c.requires)
 
 pub push-requires : goal.push-requires
 push-requires g c =
-    one_more _ _ (next_of (map (g.T.OnCircle.standing c.args.center c.args.radius)) _ _ (record { x = nan; y = nan }) c.loop-direction-test.true c.loop-direction.invariant)
+    one_more _ _ (next_of (map (g.T.OnCircle.standing c.args.circle.center c.args.circle.radius)) _ _ (record { x = nan; y = nan }) c.loop-direction-test.true c.loop-direction.invariant)
 
 pub loop-direction-preserved : goal.loop-direction-preserved
 loop-direction-preserved g c =
-    goes_on (_ ∷ []) _ _ (next_of (map (g.T.OnCircle.standing c.args.center c.args.radius)) _ _ _ c.loop-direction-test.true c.loop-direction.invariant)
+    goes_on (_ ∷ []) _ _ (next_of (map (g.T.OnCircle.standing c.args.circle.center c.args.circle.radius)) _ _ _ c.loop-direction-test.true c.loop-direction.invariant)
     (c.push.ensures ∙ ap (λ x. extended (held c.loop-direction.self) (x ∷ [])) c.on_circle.ensures)
 
 pub returns : goal.returns
-returns g c = ends (last_of (map (g.T.OnCircle.standing c.args.center c.args.radius)) _ _ c.loop-direction-test.false c.loop-direction.invariant)
+returns g c = ends (last_of (map (g.T.OnCircle.standing c.args.circle.center c.args.circle.radius)) _ _ c.loop-direction-test.false c.loop-direction.invariant)

@@ -1,6 +1,6 @@
 use Rattle.std.proofs.Common.{map, rules}
 use Rattle.std.proofs.lemmas.List.{length-map}
-use Rattle.path.specs.Adding.{whole_circle}
+use Rattle.path.specs.Builders.{whole_circle}
 use Rattle.circles.specs.Circles.{circle}
 use Rattle.path.specs.Circling.{Circled, point_on}
 use Rattle.path.proofs.Circling.{circled}

@@ -1,10 +1,7 @@
-use Rattle.std.proofs.Common.{[], ◌∷◌, ap, ◌∙◌, rules}
-use Rattle.path.specs.Adding.{open_line}
-use Rattle.path.specs.Builders.{Along}
+use Rattle.std.proofs.Common.{[], ◌∷◌, rules}
+use Rattle.path.specs.Builders.{open_line}
+use Rattle.path.specs.Laws.{Along}
 use Rattle.path.specs.Lines.{open_points}
-use Rattle.emath.specs.Answers.{accepted}
-use Rattle.path.specs.Held.{held}
-use Rattle.path.proofs.Retold.{as_left, line_is, extends_is}
 use Rattle.path.proofs.Corners.{open_along}
 use Rattle.path.proofs.Extending.{accepts}
 use Rattle.path.proofs.Growing.{grown_room, grown_twice}
@@ -18,4 +15,4 @@ returns c =
     let places = c.args.a ∷ c.args.b ∷ [] in
     let both = grown_twice _ _ _ (_ ∷ []) (_ ∷ []) c.push.ensures c.push-2.ensures in
     let k = accepts (Along places) (open_line places) (open_points places) _ _ (search rules) (open_along places (search rules)) (search rules) (search rules) in
-    record { outcome = ap as_left k.outcome ∙ line_is (held c.args.self.now) places; extends = extends_is places (accepted tt) _ _ k.adds.extends; adds = k.adds }
+    record { outcome = k.outcome; adds = k.adds }

@@ -17,7 +17,7 @@ push-requires c =
 pub loop-next-preserved : goal.loop-next-preserved
 loop-next-preserved c =
     let here = c.loop-next in
-    bend_goes_on _ here.normal here.at _ _ _ _ _ c.edge_normal.ensures c.bend_between-bend.ensures
+    bend_goes_on _ here.normal here.at _ _ _ _ _ c.edge_normal.ensures c.between-turn.ensures
     (next_of (loop_corners c.edge_normal-closing.result here.normal here.at) _ _ _ c.loop-next-test.true here.invariant)
     c.push.ensures
 
@@ -29,5 +29,5 @@ push-requires-2 c =
 pub returns : goal.returns
 returns c =
     let here = c.loop-next in
-    bend_ends _ _ _ _ _ c.bend_between.ensures (last_of (loop_corners c.edge_normal-closing.result here.normal here.at) _ _ c.loop-next-test.false here.invariant) c.push-2.ensures
+    bend_ends _ _ _ _ _ c.between.ensures (last_of (loop_corners c.edge_normal-closing.result here.normal here.at) _ _ c.loop-next-test.false here.invariant) c.push-2.ensures
     ∙ ap (λ n. extended (held c.args.self.now) (loop_corners n n c.args.first c.args.rest.now)) c.edge_normal-closing.ensures

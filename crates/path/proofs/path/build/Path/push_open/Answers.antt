@@ -10,13 +10,13 @@ loop-next-init c = open_begins _ _ _ _ _ _ c.edge_normal-edge.ensures c.requires
 pub push_corner-requires : goal.push_corner-requires
 push_corner-requires c =
     let here = c.loop-next in
-    turn_fits _ here.edge _ _ _ _ _ c.edge_normal-edge-in-loop-next.ensures c.turn_between-turn.ensures
+    turn_fits _ here.edge _ _ _ _ _ c.edge_normal-edge-in-loop-next.ensures c.between-turn.ensures
     (next_of (open_corners here.normal here.edge here.at) _ _ _ c.loop-next-test.true here.invariant)
 
 pub loop-next-preserved : goal.loop-next-preserved
 loop-next-preserved c =
     let here = c.loop-next in
-    turn_goes_on _ here.edge _ _ _ _ _ c.edge_normal-edge-in-loop-next.ensures c.turn_between-turn.ensures _
+    turn_goes_on _ here.edge _ _ _ _ _ c.edge_normal-edge-in-loop-next.ensures c.between-turn.ensures _
     (next_of (open_corners here.normal here.edge here.at) _ _ _ c.loop-next-test.true here.invariant)
     c.push_corner.ensures
 

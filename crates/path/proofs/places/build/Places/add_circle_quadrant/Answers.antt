@@ -1,6 +1,6 @@
 use Rattle.std.proofs.Common.{rules}
 use Rattle.path.specs.Arcs.{quadrant_count, quadrant_places}
-use Rattle.path.specs.Adding.{one_quadrant}
+use Rattle.path.specs.Builders.{one_quadrant}
 use Rattle.path.specs.Laws.{Numbering}
 use Rattle.path.proofs.Arcs.{quadrant_length}
 use Rattle.path.proofs.Extending.{accepts}

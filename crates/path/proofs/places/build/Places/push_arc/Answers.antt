@@ -6,16 +6,16 @@ use Rattle.path.proofs.Growing.{extended_none}
 use Rattle.path.proofs.places.build.Places.push_arc.Goals as goal
 
 pub returns-else-not-arc : goal.returns-else-not-arc
-returns-else-not-arc c = sym (ap (extended (held c.args.self.now)) (no_places c.args.arc c.if-arc.true (not-false _ c.if-not-arc.false)) ∙ extended_none (held c.args.self.now))
+returns-else-not-arc c = sym (ap (extended (held c.args.self.now)) (no_places c.args.arc c.if-circle.true (not-false _ c.if-not-arc.false)) ∙ extended_none (held c.args.self.now))
 
 pub slice_bounds-push_on_circle-end : goal.slice_bounds-push_on_circle-end
-slice_bounds-push_on_circle-end c = cut_fits c.args.arc _ _ c.circle_for-directions.ensures.table c.arc_count.ensures.count c.requires.0 c.if-arc.false
+slice_bounds-push_on_circle-end c = cut_fits c.args.arc _ _ _ c.number.ensures.number c.circle_for-directions.ensures.table c.count.ensures.count c.if-circle.false
 
 pub push_on_circle-requires : goal.push_on_circle-requires
 push_on_circle-requires c =
-    omega (arith, c.requires.1, cut_length c.args.arc _ _ c.circle_for-directions.ensures.table c.arc_count.ensures.count c.requires.0 c.if-arc.false)
+    omega (arith, c.requires, cut_length c.args.arc _ _ _ c.number.ensures.number c.circle_for-directions.ensures.table c.count.ensures.count c.if-circle.false)
 
 pub returns : goal.returns
 returns c =
     c.push_on_circle.ensures
-    ∙ ap (extended (held c.args.self.now)) (cut_is c.args.arc _ _ c.circle_for-directions.ensures.table c.arc_count.ensures.count c.requires.0 c.if-arc.false)
+    ∙ ap (extended (held c.args.self.now)) (cut_is c.args.arc _ _ _ c.number.ensures.number c.circle_for-directions.ensures.table c.count.ensures.count c.if-circle.false)

@@ -4,33 +4,33 @@ use Rattle.path.proofs.Growing.{begins, has_room, goes_on}
 use Rattle.path.proofs.places.build.Places.push_corners.Goals as goal
 
 pub push_arc-requires : goal.push_arc-requires
-push_arc-requires c = (c.requires.0.se, has_room (arc_places c.args.corners.se) _ (begins _ (joined c.args.corners) c.requires.1))
+push_arc-requires c = has_room (arc_places c.args.corners.se) _ (begins _ (joined c.args.corners) c.requires)
 
 pub push_arc-requires-2 : goal.push_arc-requires-2
 push_arc-requires-2 c =
     let k = c.args.corners in
-    let se = goes_on (arc_places k.se) _ _ (begins _ (joined k) c.requires.1) c.push_arc.ensures in
-    (c.requires.0.sw, has_room (arc_places k.sw) _ se)
+    let se = goes_on (arc_places k.se) _ _ (begins _ (joined k) c.requires) c.push_arc.ensures in
+    has_room (arc_places k.sw) _ se
 
 pub push_arc-requires-3 : goal.push_arc-requires-3
 push_arc-requires-3 c =
     let k = c.args.corners in
-    let se = goes_on (arc_places k.se) _ _ (begins _ (joined k) c.requires.1) c.push_arc.ensures in
+    let se = goes_on (arc_places k.se) _ _ (begins _ (joined k) c.requires) c.push_arc.ensures in
     let sw = goes_on (arc_places k.sw) _ _ se c.push_arc-2.ensures in
-    (c.requires.0.nw, has_room (arc_places k.nw) _ sw)
+    has_room (arc_places k.nw) _ sw
 
 pub push_arc-requires-4 : goal.push_arc-requires-4
 push_arc-requires-4 c =
     let k = c.args.corners in
-    let se = goes_on (arc_places k.se) _ _ (begins _ (joined k) c.requires.1) c.push_arc.ensures in
+    let se = goes_on (arc_places k.se) _ _ (begins _ (joined k) c.requires) c.push_arc.ensures in
     let sw = goes_on (arc_places k.sw) _ _ se c.push_arc-2.ensures in
     let nw = goes_on (arc_places k.nw) _ _ sw c.push_arc-3.ensures in
-    (c.requires.0.ne, nw.fit)
+    nw.fit
 
 pub returns : goal.returns
 returns c =
     let k = c.args.corners in
-    let se = goes_on (arc_places k.se) _ _ (begins _ (joined k) c.requires.1) c.push_arc.ensures in
+    let se = goes_on (arc_places k.se) _ _ (begins _ (joined k) c.requires) c.push_arc.ensures in
     let sw = goes_on (arc_places k.sw) _ _ se c.push_arc-2.ensures in
     let nw = goes_on (arc_places k.nw) _ _ sw c.push_arc-3.ensures in
     c.push_arc-4.ensures ∙ nw.same

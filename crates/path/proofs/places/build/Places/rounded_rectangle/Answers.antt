@@ -1,8 +1,8 @@
-use Rattle.std.proofs.Common.{◌≡◌, sym, subst, rules}
-use Rattle.path.specs.Arcs.{Quadrants, clamped_radii, square, joined, rounded, rounded_count}
-use Rattle.path.specs.Adding.{rounded_rectangle}
+use Rattle.std.proofs.Common.{◌≡◌, rules}
+use Rattle.path.specs.Arcs.{clamped_radii, square, joined, rounded, rounded_count}
+use Rattle.path.specs.Builders.{rounded_rectangle}
 use Rattle.path.specs.Laws.{Numbering}
-use Rattle.path.proofs.Arcs.{rounded_length, quadrants_of}
+use Rattle.path.proofs.Arcs.{rounded_length}
 use Rattle.path.proofs.Extending.{rebuilds}
 use Rattle.path.proofs.places.build.Places.rounded_rectangle.Goals as goal
 
@@ -13,9 +13,6 @@ returns-then-is_zero c =
     let all : rounded rect k ≡ square rect = search rules in
     let r = rebuilds (Numbering (rounded_count rect k)) (rounded_rectangle rect c.args.radii) (rounded rect k) _ _ _ (search rules) (rounded_length rect k) c.replace_by_square.ensures all in
     record { outcome = r.outcome; replaces = r.replaces }
-
-pub replace_by_corners-requires : goal.replace_by_corners-requires
-replace_by_corners-requires c = subst Quadrants (sym c.corners_of.ensures) (quadrants_of c.args.rect c.clamped-radii.result)
 
 pub returns-else-is_zero : goal.returns-else-is_zero
 returns-else-is_zero c =
