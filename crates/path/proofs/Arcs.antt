@@ -6,7 +6,7 @@ use Rattle.emath.specs.Plane as plane
 use Rattle.emath.specs.declared.plane.Pos2.{Pos2}
 use Rattle.emath.specs.declared.plane.Vec2.{Vec2}
 use Rattle.emath.specs.declared.rect.Rect.{Rect}
-use Rattle.path.specs.Arcs.{quadrant_places, quadrant_count, but_last, number_of, quadrant_of, arc_places, arc_count, corners_of, square, joined, joined_count, no_radii, rounded, rounded_count}
+use Rattle.path.specs.Arcs.{quadrant_places, quadrant_count, but_last, number_of, arc_places, arc_count, corners_of, square, joined, joined_count, no_radii, rounded, rounded_count}
 use Rattle.circles.specs.Circles.{circle, quarter_steps}
 use Rattle.path.specs.Circling.{place_on}
 use Rattle.path.specs.declared.arc.Arc.{Arc}

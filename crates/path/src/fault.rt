@@ -2,14 +2,15 @@
 ghost use Rattle.std.specs.Prelude.{◌≡◌};
 ghost use Rattle.path.specs.Faults.{number_of};
 
+/// By the numbers of the refusals.
 #[derive(Clone, Copy)]
 pub enum PathFault {
-    /// A value is not finite or outside its limits.
-    OutOfLimits,
     /// A line has fewer than two points.
-    TooFewPoints,
+    TooFewPoints = 1,
+    /// A value is not finite or outside its limits.
+    OutOfLimits = 2,
     /// There is no space for what the call would leave.
-    NoSpace,
+    NoSpace = 3,
 }
 
 impl PathFault {
@@ -17,10 +18,6 @@ impl PathFault {
     pub fn number(self) -> u8
         ensures { result ≡ number_of self }
     {
-        match self {
-            PathFault::TooFewPoints => 1,
-            PathFault::OutOfLimits => 2,
-            PathFault::NoSpace => 3,
-        }
+        self as u8
     }
 }

@@ -17,13 +17,14 @@ fn wedge(a: Pos2, b: Pos2) -> f64
 fn cw_signed_area(points: &[PathPoint]) -> f64
     ensures { result ≡ turns.area points.now }
 {
+    let Some(last) = points.last() else {
+        return 0.0;
+    };
     let mut area = 0.0;
-    if points.len() > 0 {
-        let mut previous = points[points.len() - 1].pos;
-        for point in points {
-            area += wedge(previous, point.pos);
-            previous = point.pos;
-        }
+    let mut previous = last.pos;
+    for point in points {
+        area += wedge(previous, point.pos);
+        previous = point.pos;
     }
     area
 }
@@ -40,26 +41,23 @@ impl PathPoint {
     }
 }
 
+/// The points in the other order, their normals negated.
+fn turn(points: &mut [PathPoint])
+    ensures { points.new ≡ map turns.flipped (reverse points.old) }
+{
+    points.reverse();
+    for point in points.iter_mut() {
+        *point = point.flipped();
+    }
+}
+
 impl<'a> Path<'a> {
     /// Turns a path that runs counterclockwise: its points in the other order, their normals negated.
     pub fn turn_clockwise(&mut self)
         ensures { held self.new ≡ rewritten (held self.old) (turns.turned (held self.old).used) }
     {
         if cw_signed_area(self.as_slice()) < 0.0 {
-            self.turn();
-        }
-    }
-
-    fn turn(&mut self)
-        ensures { held self.new ≡ rewritten (held self.old) (map turns.flipped (reverse (held self.old).used)) }
-    {
-        let n = self.len;
-        for i in 0..n - n / 2 {
-            let j = n - 1 - i;
-            let first = self.items[i];
-            let last = self.items[j];
-            self.items[i] = last.flipped();
-            self.items[j] = first.flipped();
+            turn(&mut self.items[..self.len]);
         }
     }
 }
