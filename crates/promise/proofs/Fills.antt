@@ -11,10 +11,9 @@ use Rattle.ecolor.specs.Colors.{is_transparent}
 use Rattle.ecolor.specs.declared.color.Color32.{Color32}
 use Rattle.ecolor.specs.declared.vertex.Vertex.{Vertex}
 use Rattle.tessellator.specs.Brushes.{plain, textured}
-use Rattle.tessellator.specs.Fills.{hard_fill_rows, feathered_fill_rows}
-use Rattle.tessellator.specs.BrushedFills.{is_fill_empty, filled_with, plain_fill, textured_figure}
+use Rattle.tessellator.specs.Fills.{hard_fill_rows, feathered_fill_rows, is_unfilled, filled_with, fill_figure, textured_figure}
 use Rattle.tessellator.specs.Outcome.{Figure, nothing, triangles_of}
-use Rattle.tessellator.specs.BrushedRows.{brushed_rows}
+use Rattle.tessellator.specs.Rows.{row_vertices}
 use Rattle.tessellator.specs.declared.row.Paint.{Paint}
 use Rattle.tessellator.specs.declared.row.Row.{Row}
 use Rattle.promise.specs.Grown.{Look, fill_look}
@@ -42,11 +41,11 @@ nothing_proper points look = record {
 }
 
 module _ (brush : Paint → Pos2 → Vertex) (look : Look)
-    (made : (these : List Row) (points : List PathPoint) (rule : Pos2 → Pos2) → look.texture ≡ Some rule → (k : ℕ) → k < length (brushed_rows brush these points) →
-    (at (brushed_rows brush these points) k).uv ≡ rule (at (brushed_rows brush these points) k).pos) where
+    (made : (these : List Row) (points : List PathPoint) (rule : Pos2 → Pos2) → look.texture ≡ Some rule → (k : ℕ) → k < length (row_vertices brush these points) →
+    (at (row_vertices brush these points) k).uv ≡ rule (at (row_vertices brush these points) k).pos) where
   filled_proper : (feathering : Float) (color : Color32) (points : List PathPoint) → Proper (filled_with brush feathering color points) look
   filled_proper feathering color points =
-      cond_both (is_fill_empty color (length points)) _ _ (λ (f : Figure). Proper f look) (λ _. nothing_proper points look)
+      cond_both (is_unfilled color (length points)) _ _ (λ (f : Figure). Proper f look) (λ _. nothing_proper points look)
       (λ e.
       let few : 3 ≤ length points = ltb-false _ _ (or_parts (is_transparent color) _ e).1 in
       cond_both (lt plane.zero feathering) _ _ (λ (f : Figure). Proper f look)
@@ -67,7 +66,7 @@ module _ (brush : Paint → Pos2 → Vertex) (look : Look)
         textured = λ rule e k h. made (hard_fill_rows color) points rule e k (omega arith);
       }))
 
-pub fill_proper : (feathering : Float) (color : Color32) (points : List PathPoint) (look : Look) → look.texture ≡ None → Proper (plain_fill feathering color points) look
+pub fill_proper : (feathering : Float) (color : Color32) (points : List PathPoint) (look : Look) → look.texture ≡ None → Proper (fill_figure feathering color points) look
 fill_proper feathering color points look none = filled_proper plain look (λ these points rule e k h. none_some (sym none ∙ e)) feathering color points
 
 pub textured_proper : (feathering : Float) (color : Color32) (rule : Pos2 → Pos2) (points : List PathPoint) → Proper (textured_figure feathering color rule points) (fill_look (Some rule))
@@ -81,5 +80,5 @@ textured_proper feathering color rule points = filled_proper (textured rule) (fi
 pub clear_empty : (feathering : Float) (color : Color32) (rule : Pos2 → Pos2) (points : List PathPoint) → is_transparent color ≡ true →
     ((textured_figure feathering color rule points).vertices ≡ []) × (triangles_of (textured_figure feathering color rule points) ≡ [])
 clear_empty feathering color rule points e =
-    let is = cond-true (is_fill_empty color (length points)) _ _ (or_left (is_transparent color) _ e) in
+    let is = cond-true (is_unfilled color (length points)) _ _ (or_left (is_transparent color) _ e) in
     (ap (λ (f : Figure). f.vertices) is, ap triangles_of is)

@@ -13,13 +13,11 @@ use Rattle.ecolor.specs.Colors.{is_transparent, transparent}
 use Rattle.ecolor.specs.declared.color.Color32.{Color32}
 use Rattle.ecolor.specs.declared.vertex.Vertex.{Vertex}
 use Rattle.tessellator.specs.Brushes.{colored, plain}
-use Rattle.tessellator.specs.BrushedFills.{is_fill_empty, plain_fill}
-use Rattle.tessellator.specs.Fills.{hard_fill_rows}
+use Rattle.tessellator.specs.Fills.{is_unfilled, fill_figure, hard_fill_rows}
 use Rattle.tessellator.specs.Kinds.{rows, vertex_count, fewest}
 use Rattle.tessellator.specs.Outcome.{Figure}
-use Rattle.tessellator.specs.BrushedRows.{brushed_vertex, brushed_rows}
-use Rattle.tessellator.specs.Strokes.{Pen, fill_of, filled_kind, kind_of, centred, shrunk, is_clear, core_between, thick_rows, end_rows, thin_rows, hard_rows, style_of}
-use Rattle.tessellator.specs.BrushedStrokes.{faced_by, middle_faced, swelled, brushed_thick_line, brushed_thick_vertices, inset, stroke_with, brushed_figure}
+use Rattle.tessellator.specs.Rows.{vertex_of, row_vertices}
+use Rattle.tessellator.specs.Strokes.{Pen, fill_of, filled_kind, kind_of, centred, shrunk, is_clear, core_between, thick_rows, end_rows, thin_rows, hard_rows, style_of, faced, middle_of, swollen, thick_line, thick_vertices, inset, stroke_with, stroke_figure}
 use Rattle.tessellator.specs.declared.kind.Kind.{Kind}
 use Rattle.tessellator.specs.declared.kind.Kind.TheVariants.{Loop, Filled}
 use Rattle.tessellator.specs.declared.row.Paint.{Paint}
@@ -39,7 +37,7 @@ use Rattle.promise.proofs.Vertices.{at_left, at_right, some_row, length-rows, ro
 
 -- ---- as many points as before
 
-length-faced : (course : Course) (kind : StrokeKind) (points : List PathPoint) → length (faced_by course kind points) ≡ length points
+length-faced : (course : Course) (kind : StrokeKind) (points : List PathPoint) → length (faced course kind points) ≡ length points
 length-faced course kind points = length-if _ (turned points) points _ (length-turned points) refl
 
 length-centred : (kind : StrokeKind) (width : Float) (points : List PathPoint) → length (centred kind width points) ≡ length points
@@ -47,7 +45,7 @@ length-centred Inside width points = length-map points _
 length-centred Middle width points = refl
 length-centred Outside width points = length-map points _
 
-length-swollen : (feathering width : Float) (fill : Color32) (points : List PathPoint) → length (swelled feathering width fill points) ≡ length points
+length-swollen : (feathering width : Float) (fill : Color32) (points : List PathPoint) → length (swollen feathering width fill points) ≡ length points
 length-swollen feathering width fill points =
     length-if (is_transparent fill) points _ _ refl (length-if (lt width feathering) _ points _ (length-map points _) refl)
 
@@ -81,7 +79,7 @@ brush_for look = colored (look.colour look.box)
 
 -- rows of which those of the core have its colours
 abbrev CoredRows : Style → Look → List Row → Type 0
-CoredRows s look these = (point : PathPoint) (r : ℕ) → CoreRow s r → Cored s look (brushed_vertex (brush_for look) point (get_or these r some_row))
+CoredRows s look these = (point : PathPoint) (r : ℕ) → CoreRow s r → Cored s look (vertex_of (brush_for look) point (get_or these r some_row))
 
 between_cored : (look : Look) (first : Side) (inner : Float) (last : Side) (fill : Color32) → CoredRows Thick look (core_between first inner last fill)
 between_cored look first inner last fill point r (inl e) = rw e
@@ -108,13 +106,13 @@ record Lined (s : Style) (look : Look) (n : ℕ) (vs : List Vertex) : Type 0 whe
   cored : (i r : ℕ) → i < n → CoreRow s r → Cored s look (at vs (rows s * i + r))
 
 lined : (s : Style) (look : Look) (these : List Row) → length these ≡ rows s → CoredRows s look these → (points : List PathPoint) →
-    Lined s look (length points) (brushed_rows (brush_for look) these points)
+    Lined s look (length points) (row_vertices (brush_for look) these points)
 lined s look these many cored points = record {
   long = length-rows (brush_for look) these points ∙ ap (λ R. R * length points) many;
   cored = λ i r hi hr.
       let below = core_below s r hr in
       let e = row_vertex (brush_for look) these points i r hi (omega arith) in
-      subst (λ R. Cored s look (at (brushed_rows (brush_for look) these points) (R * i + r))) many (subst (Cored s look) (sym e) (cored (get_or points i no_point) r hr));
+      subst (λ R. Cored s look (at (row_vertices (brush_for look) these points) (R * i + r))) many (subst (Cored s look) (sym e) (cored (get_or points i no_point) r hr));
 }
 
 -- a thick line, whose ends have rows of their own
@@ -132,7 +130,7 @@ module _ (look : Look) where
     ];
   }
 
-  line_lined : (points : List PathPoint) → 2 ≤ length points → Lined Thick look (length points) (brushed_thick_line look.feathering look.width (brush_for look) points)
+  line_lined : (points : List PathPoint) → 2 ≤ length points → Lined Thick look (length points) (thick_line look.feathering look.width (brush_for look) points)
   line_lined points few =
       let n : ℕ = length points in
       let front : List PathPoint = take 1 points in
@@ -140,30 +138,30 @@ module _ (look : Look) where
       let back : List PathPoint = drop (n - 1) points in
       let all : length front + (length middle + length back) ≡ n =
       omega (arith, length-take 1 points, length-take (n - 2) (drop 1 points), length-drop 1 points, length-drop (n - 1) points) in
-      subst (λ k. Lined Thick look k (brushed_thick_line look.feathering look.width (brush_for look) points)) all
+      subst (λ k. Lined Thick look k (thick_line look.feathering look.width (brush_for look) points)) all
       (both_lined (length front) (length middle + length back) _ _ (ends look.feathering front)
       (both_lined (length middle) (length back) _ _ (lined Thick look (thick_rows look.feathering look.width transparent) refl (between_cored look _ _ _ transparent) middle) (ends (neg look.feathering) back)))
     where
-      ends : (past : Float) (points : List PathPoint) → Lined Thick look (length points) (brushed_rows (brush_for look) (end_rows look.feathering look.width past) points)
+      ends : (past : Float) (points : List PathPoint) → Lined Thick look (length points) (row_vertices (brush_for look) (end_rows look.feathering look.width past) points)
       ends past points = lined Thick look (end_rows look.feathering look.width past) refl (between_cored look _ _ _ transparent) points
 
   thick_lined : (course : Course) (points : List PathPoint) → 2 ≤ length points →
-      Lined Thick look (length points) (brushed_thick_vertices course look.feathering look.width (brush_for look) points)
+      Lined Thick look (length points) (thick_vertices course look.feathering look.width (brush_for look) points)
   thick_lined Unjoined points few = line_lined points few
   thick_lined (Around fill) points few = lined Thick look (thick_rows look.feathering look.width fill) refl (between_cored look _ _ _ fill) points
 
 -- how many vertices the fill within a hard stroke has
 module _ (fill : Color32) (points : List PathPoint) where
   abbrev within : ℕ
-  within = length (plain_fill plane.zero fill points).vertices
+  within = length (fill_figure plane.zero fill points).vertices
 
-  within_none : is_fill_empty fill (length points) ≡ true → within ≡ 0
-  within_none e = ap (λ (f : Figure). length f.vertices) (cond-true (is_fill_empty fill (length points)) _ _ e)
+  within_none : is_unfilled fill (length points) ≡ true → within ≡ 0
+  within_none e = ap (λ (f : Figure). length f.vertices) (cond-true (is_unfilled fill (length points)) _ _ e)
 
-  within_some : is_fill_empty fill (length points) ≡ false → within ≡ length points
+  within_some : is_unfilled fill (length points) ≡ false → within ≡ length points
   unfolding lt of_bits
   within_some e =
-      ap (λ (f : Figure). length f.vertices) (cond-false (is_fill_empty fill (length points)) _ _ e)
+      ap (λ (f : Figure). length f.vertices) (cond-false (is_unfilled fill (length points)) _ _ e)
       ∙ length-rows plain (hard_fill_rows fill) points ∙ omega arith
 
 hard_kind : (course : Course) (inner : List PathPoint) (n : ℕ) → length inner ≡ n → 2 ≤ n → InStyle Hard (kind_of Hard course n) n (within (fill_of course) inner)
@@ -204,10 +202,10 @@ module _ (look : Look) (untextured : look.texture ≡ None) (course : Course) (p
   along_proper Hard =
       let inner : List PathPoint = inset look.width (fill_of course) points in
       let count : length inner ≡ length points = length-inset look.width (fill_of course) points in
-      lined_proper Hard (along Hard) look (length points) _ (plain_fill plane.zero (fill_of course) inner).vertices count refl
+      lined_proper Hard (along Hard) look (length points) _ (fill_figure plane.zero (fill_of course) inner).vertices count refl
       (lined Hard look (hard_rows look.width) refl (hard_cored look look.width) points) (hard_kind course inner (length points) count few) untextured
   along_proper Thin =
-      let outer : List PathPoint = swelled look.feathering look.width (fill_of course) points in
+      let outer : List PathPoint = swollen look.feathering look.width (fill_of course) points in
       let count : length outer ≡ length points = length-swollen look.feathering look.width (fill_of course) points in
       lined_proper Thin (along Thin) look (length points) _ [] count (sym (append-nil (along Thin).vertices))
       (subst (λ n. Lined Thin look n (along Thin).vertices) count (lined Thin look (thin_rows look.feathering look.width (fill_of course)) refl (thin_cored look (fill_of course)) outer))
@@ -218,15 +216,15 @@ module _ (look : Look) (untextured : look.texture ≡ None) (course : Course) (p
 
 -- ---- all strokes
 
-pub stroke_proper : (pen : Pen) (points : List PathPoint) → Proper (brushed_figure pen points) (stroke_look pen points)
+pub stroke_proper : (pen : Pen) (points : List PathPoint) → Proper (stroke_figure pen points) (stroke_look pen points)
 stroke_proper pen points =
     let look = stroke_look pen points in
     let fill = fill_of pen.course in
-    let facing = faced_by pen.course pen.kind points in
+    let facing = faced pen.course pen.kind points in
     cond_both (ltb (length points) 2) _ _ (λ (f : Figure). Proper f look) (λ _. nothing_proper points look)
     (λ e. cond_both (eq pen.width plane.zero) _ _ (λ (f : Figure). Proper f look) (λ _. fill_proper pen.feathering fill points look refl)
     (λ _. cond_both (is_clear pen.plain) _ _ (λ (f : Figure). Proper f look) (λ _. fill_proper pen.feathering fill (shrunk pen.kind pen.width facing) look refl)
     (λ _.
     let few : 2 ≤ length points = ltb-false _ _ e in
-    along_proper look refl pen.course (middle_faced pen points) (omega (arith, length-centred pen.kind pen.width facing, length-faced pen.course pen.kind points))
+    along_proper look refl pen.course (middle_of pen points) (omega (arith, length-centred pen.kind pen.width facing, length-faced pen.course pen.kind points))
     (style_of pen.feathering pen.width))))

@@ -11,11 +11,10 @@ use Rattle.ecolor.specs.declared.color.Color32.{Color32}
 use Rattle.ecolor.specs.declared.vertex.TextureId.{TextureId}
 use Rattle.ecolor.specs.declared.vertex.Vertex.{Vertex}
 use Rattle.tessellator.specs.Boxes.{stroke_box}
-use Rattle.tessellator.specs.BrushedFills.{fill_allowed, plain_fill, textured_figure}
+use Rattle.tessellator.specs.Fills.{fill_allowed, fill_figure, textured_figure}
 use Rattle.tessellator.specs.Outcome.{Figure, outcome, textured_outcome, joining}
 use Rattle.tessellator.specs.State.{MeshState, empty_mesh}
-use Rattle.tessellator.specs.Strokes.{Pen}
-use Rattle.tessellator.specs.BrushedStrokes.{middle_faced, brushed_figure, brushed_outcome}
+use Rattle.tessellator.specs.Strokes.{Pen, middle_of, stroke_figure, stroke_outcome}
 use Rattle.tessellator.specs.declared.fault.Appended.{Appended}
 use Rattle.tessellator.specs.declared.stroke.Course.{Course}
 use Rattle.tessellator.specs.declared.stroke.StrokeKind.{StrokeKind}
@@ -62,7 +61,7 @@ look_along pen points = record {
 }
 
 abbrev pub stroke_look : Pen → List PathPoint → Look
-stroke_look pen points = look_along pen (middle_faced pen points)
+stroke_look pen points = look_along pen (middle_of pen points)
 
 -- a figure of a mesh, with the number of its first vertex
 pub record Placed : Type 0 where
@@ -88,16 +87,16 @@ pub data Grown : MeshState → List Placed → Type 0 where
   begun : (vertices : List Vertex) (indices : List ℕ) (texture : TextureId) → Grown (empty_mesh vertices indices texture) []
   filled : {m m' : MeshState} {figures : List Placed} {p' : Held PathPoint} {answer : Answer Appended}
       (p : Held PathPoint) (feathering : Float) (color : Color32) → Grown m figures →
-      record { answer = answer; path = p'; mesh = m' } ≡ outcome (fill_allowed feathering p.used) (plain_fill feathering color p.used) p m →
-      Grown m' (figures ++ added answer m (plain_fill feathering color p.used) (fill_look None))
+      record { answer = answer; path = p'; mesh = m' } ≡ outcome (fill_allowed feathering p.used) (fill_figure feathering color p.used) p m →
+      Grown m' (figures ++ added answer m (fill_figure feathering color p.used) (fill_look None))
   textured : {m m' : MeshState} {figures : List Placed} {p' : Held PathPoint} {answer : Answer Appended}
       (p : Held PathPoint) (feathering : Float) (color : Color32) (texture : TextureId) (rule : Pos2 → Pos2) → Grown m figures →
       record { answer = answer; path = p'; mesh = m' } ≡ textured_outcome (fill_allowed feathering p.used) color texture (textured_figure feathering color rule p.used) p m →
       Grown m' (figures ++ added answer m (textured_figure feathering color rule p.used) (fill_look (Some rule)))
   stroked : {m m' : MeshState} {figures : List Placed} {p' : Held PathPoint} {answer : Answer Appended}
       (p : Held PathPoint) (feathering width : Float) (kind : StrokeKind) (course : Course) (rule : Rule) → Grown m figures →
-      record { answer = answer; path = p'; mesh = m' } ≡ brushed_outcome (pen_with feathering width kind course rule) p m →
-      Grown m' (figures ++ added answer m (brushed_figure (pen_with feathering width kind course rule) p.used) (stroke_look (pen_with feathering width kind course rule) p.used))
+      record { answer = answer; path = p'; mesh = m' } ≡ stroke_outcome (pen_with feathering width kind course rule) p m →
+      Grown m' (figures ++ added answer m (stroke_figure (pen_with feathering width kind course rule) p.used) (stroke_look (pen_with feathering width kind course rule) p.used))
   appended : {m m' other : MeshState} {figures others : List Placed} {answer : Answer (Unit {0})} → Grown m figures → Grown other others →
       record { answer = answer; mesh = m' } ≡ joining other m →
       Grown m' (figures ++ copied answer m others)

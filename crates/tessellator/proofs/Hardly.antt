@@ -6,13 +6,12 @@ use Rattle.emath.specs.declared.plane.Pos2.{Pos2}
 use Rattle.path.specs.declared.point.PathPoint.{PathPoint}
 use Rattle.ecolor.specs.declared.color.Color32.{Color32}
 use Rattle.ecolor.specs.declared.vertex.Vertex.{Vertex}
-use Rattle.tessellator.specs.BrushedFills.{plain_fill}
+use Rattle.tessellator.specs.Fills.{fill_figure}
 use Rattle.tessellator.specs.Kinds.{triangles, vertex_count}
 use Rattle.tessellator.specs.Outcome.{KindFits, mesh_after}
-use Rattle.tessellator.specs.BrushedRows.{brushed_rows}
+use Rattle.tessellator.specs.Rows.{row_vertices}
 use Rattle.tessellator.specs.State.{MeshState, with_vertices, with_triangles, vertex_room, index_room}
-use Rattle.tessellator.specs.Strokes.{fill_of, hard_rows, kind_of}
-use Rattle.tessellator.specs.BrushedStrokes.{inset, stroke_with}
+use Rattle.tessellator.specs.Strokes.{fill_of, hard_rows, kind_of, inset, stroke_with}
 use Rattle.tessellator.specs.declared.kind.Kind.{Kind}
 use Rattle.tessellator.specs.declared.row.Paint.{Paint}
 use Rattle.tessellator.specs.declared.row.Row.{Row}
@@ -24,37 +23,37 @@ use Rattle.tessellator.proofs.Stroked.{length-inset, hard_count}
 -- the rows over `outer`, and then the fill over `inner`
 module _ (brush : Paint → Pos2 → Vertex) (feathering width : Float) (course : Course) (points outer inner : List PathPoint) (rows : List Row) (fill : Color32) (m m₁ : MeshState)
     (is-outer : outer ≡ points) (is-rows : rows ≡ hard_rows width) (is-fill : fill ≡ fill_of course) (is-inner : inner ≡ inset width fill points)
-    (one : m₁ ≡ with_vertices m (brushed_rows brush rows outer)) (fits : KindFits (kind_of Hard course (length points)) (length points) m) where
+    (one : m₁ ≡ with_vertices m (row_vertices brush rows outer)) (fits : KindFits (kind_of Hard course (length points)) (length points) m) where
   within : List PathPoint
   within = inset width (fill_of course) points
 
   ring : List Vertex
-  ring = brushed_rows brush (hard_rows width) points
+  ring = row_vertices brush (hard_rows width) points
 
   first : List Vertex
-  first = brushed_rows brush rows outer
+  first = row_vertices brush rows outer
 
   is_ring : first ≡ ring
   unfolding ring first
-  is_ring = ap (λ rs. brushed_rows brush rs outer) is-rows ∙ ap (brushed_rows brush (hard_rows width)) is-outer
+  is_ring = ap (λ rs. row_vertices brush rs outer) is-rows ∙ ap (row_vertices brush (hard_rows width)) is-outer
 
   is_within : inner ≡ within
   unfolding within
   is_within = is-inner ∙ ap (λ f. inset width f points) is-fill
 
-  is_filled : (plain_fill plane.zero fill inner).vertices ≡ (plain_fill plane.zero (fill_of course) within).vertices
-  is_filled = ap (λ f. (plain_fill plane.zero f inner).vertices) is-fill ∙ ap (λ ps. (plain_fill plane.zero (fill_of course) ps).vertices) is_within
+  is_filled : (fill_figure plane.zero fill inner).vertices ≡ (fill_figure plane.zero (fill_of course) within).vertices
+  is_filled = ap (λ f. (fill_figure plane.zero f inner).vertices) is-fill ∙ ap (λ ps. (fill_figure plane.zero (fill_of course) ps).vertices) is_within
 
-  counted : length ring + length (plain_fill plane.zero (fill_of course) within).vertices ≡ vertex_count (kind_of Hard course (length points)) (length points)
+  counted : length ring + length (fill_figure plane.zero (fill_of course) within).vertices ≡ vertex_count (kind_of Hard course (length points)) (length points)
   unfolding ring within
   counted = hard_count brush width course points (inset width (fill_of course) points) (length-inset width (fill_of course) points)
 
-  pub inner_fits : length (plain_fill plane.zero fill inner).vertices ≤ vertex_room m₁
+  pub inner_fits : length (fill_figure plane.zero fill inner).vertices ≤ vertex_room m₁
   unfolding first
   inner_fits = vertex_room_left m m₁ _ one _ (omega (arith, ap length is_ring, ap length is_filled, counted, fits.vertices))
 
-  module _ (m₂ : MeshState) (two : m₂ ≡ with_vertices m₁ (plain_fill plane.zero fill inner).vertices) where
-    both : m₂ ≡ with_vertices m (ring ++ (plain_fill plane.zero (fill_of course) within).vertices)
+  module _ (m₂ : MeshState) (two : m₂ ≡ with_vertices m₁ (fill_figure plane.zero fill inner).vertices) where
+    both : m₂ ≡ with_vertices m (ring ++ (fill_figure plane.zero (fill_of course) within).vertices)
     unfolding first
     both = vertices_step m m₁ m₂ first _ _ one two (λ i. sym is_ring i ++ sym is_filled i)
 

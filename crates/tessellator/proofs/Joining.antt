@@ -4,7 +4,7 @@ use Rattle.std.specs.List.{flat_map}
 use Rattle.std.proofs.lemmas.List.{take_more, flat_map_more, length-map}
 use Rattle.emath.specs.declared.plane.Pos2.{Pos2}
 use Rattle.path.specs.declared.point.PathPoint.{PathPoint}
-use Rattle.tessellator.specs.BrushedRows.{brushed_vertex, brushed_vertices, brushed_rows}
+use Rattle.tessellator.specs.Rows.{vertex_of, vertices_at, row_vertices}
 use Rattle.ecolor.specs.declared.vertex.Vertex.{Vertex}
 use Rattle.tessellator.specs.declared.row.Paint.{Paint}
 use Rattle.tessellator.specs.declared.row.Row.{Row}
@@ -20,8 +20,8 @@ module _ {X Y : Type 0} (f : X → List Y) where
       let h = each x in
       rw (length-append, suc-mul) (omega arith)
 
-pub length-rows : (brush : Paint → Pos2 → Vertex) (rows : List Row) (points : List PathPoint) → length (brushed_rows brush rows points) ≡ length points * length rows
-length-rows brush rows points = length-joined (brushed_vertices brush rows) (length rows) (λ p. length-map rows (brushed_vertex brush p)) points
+pub length-rows : (brush : Paint → Pos2 → Vertex) (rows : List Row) (points : List PathPoint) → length (row_vertices brush rows points) ≡ length points * length rows
+length-rows brush rows points = length-joined (vertices_at brush rows) (length rows) (λ p. length-map rows (vertex_of brush p)) points
 
 -- k things more, at a place before the last of n places that have k things each
 pub one_more_fits : (k i n room : ℕ) → i < n → n * k ≤ room → i * k + k ≤ room

@@ -13,11 +13,10 @@ use Rattle.ecolor.specs.declared.color.Color32.{Color32}
 use Rattle.ecolor.specs.declared.vertex.Vertex.{Vertex}
 use Rattle.tessellator.specs.Brushes.{plain, textured}
 use Rattle.tessellator.specs.Faults.{told}
-use Rattle.tessellator.specs.BrushedFills.{is_fill_empty, fill_allowed, fill_kind, filled_with, plain_fill, textured_figure}
-use Rattle.tessellator.specs.Fills.{hard_fill_rows, feathered_fill_rows}
+use Rattle.tessellator.specs.Fills.{is_unfilled, fill_allowed, fill_kind, filled_with, fill_figure, textured_figure, hard_fill_rows, feathered_fill_rows}
 use Rattle.tessellator.specs.Kinds.{triangles, vertex_count, index_count, fewest}
 use Rattle.tessellator.specs.Outcome.{Figure, Fits, KindFits, nothing, shaped, size_of, sizing}
-use Rattle.tessellator.specs.BrushedRows.{brushed_rows}
+use Rattle.tessellator.specs.Rows.{row_vertices}
 use Rattle.tessellator.specs.State.{MeshState}
 use Rattle.tessellator.specs.declared.fault.FigureFault.TheVariants.{OutOfLimits}
 use Rattle.tessellator.specs.declared.kind.Kind.{Kind}
@@ -54,7 +53,7 @@ module _ (brush : Paint → Pos2 → Vertex) (feathering : Float) (color : Color
 
   filled_shape : (few : Bool) (feathered : Bool) → (few ≡ false → 3 ≤ length points) →
       Is (cond few Nothing (cond feathered FeatheredFill HardFill))
-      (cond few (nothing points) (cond feathered (shaped FeatheredFill (turned points) (brushed_rows brush (feathered_fill_rows feathering color) (turned points))) (shaped HardFill points (brushed_rows brush (hard_fill_rows color) points))))
+      (cond few (nothing points) (cond feathered (shaped FeatheredFill (turned points) (row_vertices brush (feathered_fill_rows feathering color) (turned points))) (shaped HardFill points (row_vertices brush (hard_fill_rows color) points))))
   unfolding Is
   filled_shape true feathered many = nothing_shape points
   filled_shape false true many =
@@ -62,26 +61,26 @@ module _ (brush : Paint → Pos2 → Vertex) (feathering : Float) (color : Color
       record { same = refl; points = long; vertices = length-rows brush (feathered_fill_rows feathering color) (turned points) ∙ omega arith; enough = many refl }
   filled_shape false false many = record { same = refl; points = refl; vertices = length-rows brush (hard_fill_rows color) points ∙ omega arith; enough = many refl }
 
-  pub filled_many : is_fill_empty color (length points) ≡ false → 3 ≤ length points
+  pub filled_many : is_unfilled color (length points) ≡ false → 3 ≤ length points
   filled_many e = ltb-false (length points) 3 (or_parts (is_transparent color) (ltb (length points) 3) e).1
 
   pub fill_shape : Shape (fill_kind feathering color (length points)) (length points) (filled_with brush feathering color points)
   unfolding Is
-  fill_shape = filled_shape (is_fill_empty color (length points)) (lt plane.zero feathering) filled_many
+  fill_shape = filled_shape (is_unfilled color (length points)) (lt plane.zero feathering) filled_many
 
   -- which figure it is
-  pub unfilled : is_fill_empty color (length points) ≡ true → filled_with brush feathering color points ≡ nothing points
+  pub unfilled : is_unfilled color (length points) ≡ true → filled_with brush feathering color points ≡ nothing points
   unfilled none = cond-true _ _ _ none
 
-  module _ (some : is_fill_empty color (length points) ≡ false) where
-    pub feathered : lt plane.zero feathering ≡ true → filled_with brush feathering color points ≡ shaped FeatheredFill (turned points) (brushed_rows brush (feathered_fill_rows feathering color) (turned points))
+  module _ (some : is_unfilled color (length points) ≡ false) where
+    pub feathered : lt plane.zero feathering ≡ true → filled_with brush feathering color points ≡ shaped FeatheredFill (turned points) (row_vertices brush (feathered_fill_rows feathering color) (turned points))
     feathered f = cond-false _ _ _ some ∙ cond-true _ _ _ f
 
-    pub hard : lt plane.zero feathering ≡ false → filled_with brush feathering color points ≡ shaped HardFill points (brushed_rows brush (hard_fill_rows color) points)
+    pub hard : lt plane.zero feathering ≡ false → filled_with brush feathering color points ≡ shaped HardFill points (row_vertices brush (hard_fill_rows color) points)
     hard f = cond-false _ _ _ some ∙ cond-false _ _ _ f
 
 -- a texture makes no difference to the size
-pub same_sizing : (rule : Pos2 → Pos2) (feathering : Float) (color : Color32) (points : List PathPoint) → sizing (fill_allowed feathering points) (plain_fill feathering color points) ≡ sizing (fill_allowed feathering points) (textured_figure feathering color rule points)
+pub same_sizing : (rule : Pos2 → Pos2) (feathering : Float) (color : Color32) (points : List PathPoint) → sizing (fill_allowed feathering points) (fill_figure feathering color points) ≡ sizing (fill_allowed feathering points) (textured_figure feathering color rule points)
 same_sizing rule feathering color points =
     ap (λ s. cond (fill_allowed feathering points) (accepted s) (told (Err OutOfLimits)))
     (sym (shape_size (fill_shape plain feathering color points)) ∙ shape_size (fill_shape (textured rule) feathering color points))
@@ -92,7 +91,7 @@ pub no_feathering : lt plane.zero plane.zero ≡ false
 unfolding lt of_bits
 no_feathering = refl
 
-pub inner_fill : (color : Color32) (points : List PathPoint) → is_fill_empty color (length points) ≡ false → plain_fill plane.zero color points ≡ shaped HardFill points (brushed_rows plain (hard_fill_rows color) points)
+pub inner_fill : (color : Color32) (points : List PathPoint) → is_unfilled color (length points) ≡ false → fill_figure plane.zero color points ≡ shaped HardFill points (row_vertices plain (hard_fill_rows color) points)
 inner_fill color points some = hard plain plane.zero color points some no_feathering
 
 -- ---- there is space for the kind, under whichever name

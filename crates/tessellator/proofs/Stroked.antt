@@ -12,12 +12,11 @@ use Rattle.ecolor.specs.Colors.{is_transparent}
 use Rattle.ecolor.specs.declared.color.Color32.{Color32}
 use Rattle.ecolor.specs.declared.vertex.Vertex.{Vertex}
 use Rattle.tessellator.specs.Brushes.{plain}
-use Rattle.tessellator.specs.BrushedFills.{fill_kind, plain_fill}
+use Rattle.tessellator.specs.Fills.{fill_kind, fill_figure}
 use Rattle.tessellator.specs.Kinds.{vertex_count, fewest}
 use Rattle.tessellator.specs.Outcome.{nothing}
-use Rattle.tessellator.specs.BrushedRows.{brushed_rows}
-use Rattle.tessellator.specs.Strokes.{Pen, fill_of, filled_kind, kind_of, centred, shrunk, is_clear, hard_rows, thin_rows, thick_rows, style_of}
-use Rattle.tessellator.specs.BrushedStrokes.{faced_by, swelled, inset, middle_faced, brushed_thick_vertices, stroke_with, brush_on, brushed_along, brushed_figure, stroke_kind}
+use Rattle.tessellator.specs.Rows.{row_vertices}
+use Rattle.tessellator.specs.Strokes.{Pen, fill_of, filled_kind, kind_of, centred, shrunk, is_clear, hard_rows, thin_rows, thick_rows, style_of, faced, swollen, inset, middle_of, thick_vertices, stroke_with, brush_on, stroke_along, stroke_figure, stroke_kind}
 use Rattle.tessellator.specs.declared.kind.Kind.{Kind}
 use Rattle.tessellator.specs.declared.kind.Kind.TheVariants.{Nothing, HardFill, FeatheredFill, Line, Loop, Filled}
 use Rattle.tessellator.specs.declared.row.Paint.{Paint}
@@ -33,7 +32,7 @@ use Rattle.tessellator.proofs.Thick.{length-thick}
 
 -- ---- moved points are as many
 
-pub length-faced : (course : Course) (kind : StrokeKind) (points : List PathPoint) → length (faced_by course kind points) ≡ length points
+pub length-faced : (course : Course) (kind : StrokeKind) (points : List PathPoint) → length (faced course kind points) ≡ length points
 length-faced course kind points = cond_both _ (turned points) points (λ ps. length ps ≡ length points) (λ e. length-turned points) (λ e. refl)
 
 pub length-centred : (kind : StrokeKind) (width : Float) (points : List PathPoint) → length (centred kind width points) ≡ length points
@@ -46,7 +45,7 @@ length-shrunk Inside width points = length-map points _
 length-shrunk Middle width points = length-map points _
 length-shrunk Outside width points = refl
 
-pub length-swollen : (feathering width : Float) (fill : Color32) (points : List PathPoint) → length (swelled feathering width fill points) ≡ length points
+pub length-swollen : (feathering width : Float) (fill : Color32) (points : List PathPoint) → length (swollen feathering width fill points) ≡ length points
 length-swollen feathering width fill points =
     cond_both (is_transparent fill) _ _ (λ ps. length ps ≡ length points) (λ e. refl)
     (λ e. cond_both (lt width feathering) _ _ (λ ps. length ps ≡ length points) (λ e. length-map points _) (λ e. refl))
@@ -86,7 +85,7 @@ hard_kinds Unjoined n = omega arith
 hard_kinds (Around fill) n = hard_by (is_transparent fill) (ltb n 3) n
 
 pub hard_count : (brush : Paint → Pos2 → Vertex) (width : Float) (course : Course) (points inner : List PathPoint) → length inner ≡ length points →
-    length (brushed_rows brush (hard_rows width) points) + length (plain_fill plane.zero (fill_of course) inner).vertices ≡ vertex_count (kind_of Hard course (length points)) (length points)
+    length (row_vertices brush (hard_rows width) points) + length (fill_figure plane.zero (fill_of course) inner).vertices ≡ vertex_count (kind_of Hard course (length points)) (length points)
 hard_count brush width course points inner same =
     let n = length points in
     let outer = length-rows brush (hard_rows width) points in
@@ -96,7 +95,7 @@ hard_count brush width course points inner same =
 -- ---- figures of strokes
 
 module _ (brush : Paint → Pos2 → Vertex) (feathering width : Float) (course : Course) (points : List PathPoint) (many : 2 ≤ length points) where
-  thick_long : (c : Course) → length (brushed_thick_vertices c feathering width brush points) ≡ 4 * length points
+  thick_long : (c : Course) → length (thick_vertices c feathering width brush points) ≡ 4 * length points
   thick_long Unjoined = length-thick feathering width brush points many
   thick_long (Around fill) = length-rows brush (thick_rows feathering width fill) points ∙ omega arith
 
@@ -107,11 +106,11 @@ module _ (brush : Paint → Pos2 → Vertex) (feathering width : Float) (course 
       record {
         same = refl;
         points = long;
-        vertices = length-append (brushed_rows brush (hard_rows width) points) (plain_fill plane.zero (fill_of course) inner).vertices ∙ hard_count brush width course points inner long;
+        vertices = length-append (row_vertices brush (hard_rows width) points) (fill_figure plane.zero (fill_of course) inner).vertices ∙ hard_count brush width course points inner long;
         enough = kind_enough Hard course (length points) many;
       }
   with_shape Thin =
-      let outer = swelled feathering width (fill_of course) points in
+      let outer = swollen feathering width (fill_of course) points in
       let long = length-swollen feathering width (fill_of course) points in
       record {
         same = refl;
@@ -125,7 +124,7 @@ module _ (brush : Paint → Pos2 → Vertex) (feathering width : Float) (course 
 -- ---- which figure, and which kind
 
 module _ (pen : Pen) where
-  pub stroke_few : (points : List PathPoint) → length points < 2 → brushed_figure pen points ≡ nothing points
+  pub stroke_few : (points : List PathPoint) → length points < 2 → stroke_figure pen points ≡ nothing points
   stroke_few points few = cond-true _ _ _ (lt-ltb (length points) 2 few)
 
   module _ (n : ℕ) (many : 2 ≤ n) where
@@ -139,20 +138,20 @@ module _ (pen : Pen) where
   -- every stroke's figure has the size that its kind says
   stroke_by : (few none clear : Bool) (points : List PathPoint) → (few ≡ false → 2 ≤ length points) →
       Shape (cond few Nothing (cond (none || clear) (fill_kind pen.feathering (fill_of pen.course) (length points)) (kind_of (style_of pen.feathering pen.width) pen.course (length points)))) (length points)
-      (cond few (nothing points) (cond none (plain_fill pen.feathering (fill_of pen.course) points)
-      (cond clear (plain_fill pen.feathering (fill_of pen.course) (shrunk pen.kind pen.width (faced_by pen.course pen.kind points))) (brushed_along pen (middle_faced pen points)))))
+      (cond few (nothing points) (cond none (fill_figure pen.feathering (fill_of pen.course) points)
+      (cond clear (fill_figure pen.feathering (fill_of pen.course) (shrunk pen.kind pen.width (faced pen.course pen.kind points))) (stroke_along pen (middle_of pen points)))))
   stroke_by true none clear points many = nothing_shape points
   stroke_by false true clear points many = fill_shape plain pen.feathering (fill_of pen.course) points
   stroke_by false false true points many =
-      let inner = shrunk pen.kind pen.width (faced_by pen.course pen.kind points) in
+      let inner = shrunk pen.kind pen.width (faced pen.course pen.kind points) in
       let long = length-shrunk pen.kind pen.width _ ∙ length-faced pen.course pen.kind points in
-      subst (λ (n : ℕ). Shape (fill_kind pen.feathering (fill_of pen.course) n) n (plain_fill pen.feathering (fill_of pen.course) inner)) long (fill_shape plain pen.feathering (fill_of pen.course) inner)
+      subst (λ (n : ℕ). Shape (fill_kind pen.feathering (fill_of pen.course) n) n (fill_figure pen.feathering (fill_of pen.course) inner)) long (fill_shape plain pen.feathering (fill_of pen.course) inner)
   stroke_by false false false points many =
-      let middle = middle_faced pen points in
+      let middle = middle_of pen points in
       let long = length-centred pen.kind pen.width _ ∙ length-faced pen.course pen.kind points in
       let style = style_of pen.feathering pen.width in
-      subst (λ (n : ℕ). Shape (kind_of style pen.course n) n (brushed_along pen middle)) long
+      subst (λ (n : ℕ). Shape (kind_of style pen.course n) n (stroke_along pen middle)) long
       (with_shape (brush_on pen middle) pen.feathering pen.width pen.course middle (rw long (many refl)) style)
 
-  pub stroke_shape : (points : List PathPoint) → Shape (stroke_kind pen (length points)) (length points) (brushed_figure pen points)
+  pub stroke_shape : (points : List PathPoint) → Shape (stroke_kind pen (length points)) (length points) (stroke_figure pen points)
   stroke_shape points = stroke_by (ltb (length points) 2) (eq pen.width plane.zero) (is_clear pen.plain) points (λ e. ltb-false (length points) 2 e)

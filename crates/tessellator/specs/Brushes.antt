@@ -1,12 +1,17 @@
 -- How the vertex of a row is made at a place.
 use Rattle.emath.specs.declared.plane.Pos2.{Pos2}
-use Rattle.ecolor.specs.Colors.{transparent}
+use Rattle.ecolor.specs.Colors.{faded, transparent}
 use Rattle.ecolor.specs.Vertices.{untextured}
 use Rattle.ecolor.specs.declared.color.Color32.{Color32}
 use Rattle.ecolor.specs.declared.vertex.Vertex.{Vertex}
-use Rattle.tessellator.specs.Rows.{color_of}
 use Rattle.tessellator.specs.declared.row.Paint.{Paint}
 use Rattle.tessellator.specs.declared.row.Paint.TheVariants.{Flat, Core, Faded}
+
+-- the colour of a vertex, where `rule` says the core's
+abbrev pub color_of : (Pos2 → Color32) → Paint → Pos2 → Color32
+color_of rule (Flat color) place = color
+color_of rule Core place = rule place
+color_of rule (Faded factor) place = faded factor (rule place)
 
 abbrev pub colored : (Pos2 → Color32) → Paint → Pos2 → Vertex
 colored rule paint place = untextured place (color_of rule paint place)

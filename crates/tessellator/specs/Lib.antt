@@ -1,7 +1,4 @@
 pub mod Boxes
-pub mod BrushedFills
-pub mod BrushedRows
-pub mod BrushedStrokes
 pub mod Brushes
 pub mod Faults
 pub mod Fills

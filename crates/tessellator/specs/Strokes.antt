@@ -1,9 +1,9 @@
--- The figures of strokes.
-use Rattle.std.specs.Prelude.{ℕ, ◌+◌, ◌-◌, ◌*◌, ◌≤◌, Bool, true, false, if◌then◌else◌, not, ◌&&◌, ◌||◌, List, [], ◌∷◌, ◌++◌, map, length, take, drop, Some, None, Option, from_bits, nat_lt, Float}
+-- The figures of strokes, open and closed.
+use Rattle.std.specs.Prelude.{ℕ, ◌-◌, Bool, true, false, if◌then◌else◌, not, ◌&&◌, ◌||◌, List, [], ◌∷◌, ◌++◌, map, length, take, drop, Some, None, Option, from_bits, nat_lt, Float}
 use Rattle.std.specs.Float.{binary32}
 use Rattle.std.specs.Float.Ieee.{sub, mul, div, neg, le, lt, eq}
 use Rattle.emath.specs.Answers.{Answer}
-use Rattle.emath.specs.Limits.{all_places, is_distance}
+use Rattle.emath.specs.Limits.{is_distance}
 use Rattle.emath.specs.Plane as plane
 use Rattle.emath.specs.declared.plane.Pos2.{Pos2}
 use Rattle.emath.specs.declared.rect.Rect.{Rect}
@@ -13,27 +13,30 @@ use Rattle.path.specs.Turns.{turned}
 use Rattle.path.specs.declared.point.PathPoint.{PathPoint}
 use Rattle.path.specs.declared.point.Side.{Side}
 use Rattle.path.specs.declared.point.Side.TheVariants.{Outward, Along, Inward, OutwardPast, InwardPast}
-use Rattle.tessellator.specs.Boxes.{stroke_box}
 use Rattle.ecolor.specs.Colors.{transparent, is_transparent}
-use Rattle.tessellator.specs.Fills.{fill_figure, half}
-use Rattle.tessellator.specs.Kinds.{rows}
+use Rattle.ecolor.specs.declared.color.Color32.{Color32}
+use Rattle.ecolor.specs.declared.vertex.Vertex.{Vertex}
+use Rattle.tessellator.specs.Boxes.{stroke_box}
+use Rattle.tessellator.specs.Brushes.{colored}
+use Rattle.tessellator.specs.Fills.{are_places, fill_figure, fill_kind, half}
 use Rattle.tessellator.specs.Outcome.{Figure, Outcome, nothing, shaped, outcome, sizing}
 use Rattle.tessellator.specs.Rows.{row_vertices}
-use Rattle.tessellator.specs.State.{MeshState, vertex_room, index_room}
-use Rattle.ecolor.specs.declared.color.Color32.{Color32}
+use Rattle.tessellator.specs.State.{MeshState}
 use Rattle.tessellator.specs.declared.fault.Appended.{Appended}
 use Rattle.tessellator.specs.declared.kind.Kind.{Kind}
-use Rattle.tessellator.specs.declared.kind.Kind.TheVariants.{Line, Loop, Filled}
+use Rattle.tessellator.specs.declared.kind.Kind.TheVariants.{Nothing, Line, Loop, Filled}
+use Rattle.tessellator.specs.declared.row.Paint.{Paint}
 use Rattle.tessellator.specs.declared.row.Paint.TheVariants.{Flat, Core, Faded}
 use Rattle.tessellator.specs.declared.row.Row.{Row}
 use Rattle.tessellator.specs.declared.stroke.Course.{Course}
 use Rattle.tessellator.specs.declared.stroke.Course.TheVariants.{Unjoined, Around}
 use Rattle.tessellator.specs.declared.stroke.PathStroke.{PathStroke}
+use Rattle.tessellator.specs.declared.stroke.PathType.{PathType}
+use Rattle.tessellator.specs.declared.stroke.PathType.TheVariants.{Open, Closed}
 use Rattle.tessellator.specs.declared.stroke.StrokeKind.{StrokeKind}
 use Rattle.tessellator.specs.declared.stroke.StrokeKind.TheVariants.{Inside, Middle, Outside}
 use Rattle.tessellator.specs.declared.stroke.Style.{Style}
 use Rattle.tessellator.specs.declared.stroke.Style.TheVariants.{Hard, Thin, Thick}
-use Rattle.ecolor.specs.declared.vertex.Vertex.{Vertex}
 
 -- ---- the rows beside the path
 
@@ -104,6 +107,22 @@ pub record Pen : Type 0 where
   pub colour : Rect → Pos2 → Color32
   pub plain : Option Color32
 
+-- a stroke with a colour rule's meaning
+abbrev pub pen_of : {C : Type 0} → (C → Rect → Pos2 → Color32) → (C → Option Color32) → Float → Course → PathStroke C → Pen
+pen_of colour plain feathering course stroke = record {
+  feathering = feathering;
+  width = stroke.width;
+  kind = stroke.kind;
+  course = course;
+  colour = colour stroke.color;
+  plain = plain stroke.color;
+}
+
+-- `stroke` runs along an open line, or along a loop without a fill
+abbrev pub course_of : PathType → Course
+course_of Open = Unjoined
+course_of Closed = Around transparent
+
 -- ---- the points in the middle of the stroke
 
 abbrev pub is_middle : StrokeKind → Bool
@@ -112,9 +131,8 @@ is_middle Middle = true
 is_middle Outside = false
 
 -- clockwise, where the fill or the kind asks for an inside
-abbrev pub faced : Pen → List PathPoint → List PathPoint
-faced pen points =
-    if not (is_transparent (fill_of pen.course)) || (is_loop pen.course && not (is_middle pen.kind)) then turned points else points
+abbrev pub faced : Course → StrokeKind → List PathPoint → List PathPoint
+faced course kind points = if not (is_transparent (fill_of course)) || (is_loop course && not (is_middle kind)) then turned points else points
 
 abbrev pub centred : StrokeKind → Float → List PathPoint → List PathPoint
 centred Inside width points = map (moved (Inward (half width))) points
@@ -122,7 +140,7 @@ centred Middle width points = points
 centred Outside width points = map (moved (Outward (half width))) points
 
 abbrev pub middle_of : Pen → List PathPoint → List PathPoint
-middle_of pen points = centred pen.kind pen.width (faced pen points)
+middle_of pen points = centred pen.kind pen.width (faced pen.course pen.kind points)
 
 -- within a stroke that is transparent everywhere
 abbrev pub shrunk : StrokeKind → Float → List PathPoint → List PathPoint
@@ -136,97 +154,59 @@ is_clear (Some color) = is_transparent color
 
 -- ---- the figures
 
--- the rule's answers for the box of a stroke over these points
-abbrev pub rule_on : Pen → List PathPoint → Pos2 → Color32
-rule_on pen points = pen.colour (stroke_box pen.feathering pen.width points)
-
 -- a filled thin stroke lies further out, so that the filled area stays as it is
-abbrev pub swollen : Pen → List PathPoint → List PathPoint
-swollen pen points =
-    if is_transparent (fill_of pen.course) then points
-    else if lt pen.width pen.feathering then map (moved (Outward (half (sub binary32 pen.feathering pen.width)))) points else points
+abbrev pub swollen : Float → Float → Color32 → List PathPoint → List PathPoint
+swollen feathering width fill points =
+    if is_transparent fill then points else if lt width feathering then map (moved (Outward (half (sub binary32 feathering width)))) points else points
 
 -- the vertices of a thick line, whose ends are feathered too
-abbrev pub thick_line : Float → Float → (Pos2 → Color32) → List PathPoint → List Vertex
-thick_line feathering width rule points =
-    row_vertices rule (end_rows feathering width feathering) (take 1 points)
-    ++ (row_vertices rule (thick_rows feathering width transparent) (take (length points - 2) (drop 1 points))
-    ++ row_vertices rule (end_rows feathering width (neg feathering)) (drop (length points - 1) points))
+abbrev pub thick_line : Float → Float → (Paint → Pos2 → Vertex) → List PathPoint → List Vertex
+thick_line feathering width brush points =
+    row_vertices brush (end_rows feathering width feathering) (take 1 points)
+    ++ (row_vertices brush (thick_rows feathering width transparent) (take (length points - 2) (drop 1 points))
+    ++ row_vertices brush (end_rows feathering width (neg feathering)) (drop (length points - 1) points))
 
--- an open line over points that lie in its middle
-abbrev pub line_in : Style → Float → Float → (Pos2 → Color32) → List PathPoint → Figure
-line_in Hard feathering width rule points = shaped (Line Hard) points (row_vertices rule (hard_rows width) points)
-line_in Thin feathering width rule points = shaped (Line Thin) points (row_vertices rule (thin_rows feathering width transparent) points)
-line_in Thick feathering width rule points = shaped (Line Thick) points (thick_line feathering width rule points)
-
--- how many indices a line of n points has
-abbrev pub line_indices : Style → ℕ → ℕ
-line_indices Hard n = 6 * (n - 1)
-line_indices Thin n = 12 * (n - 1)
-line_indices Thick n = 18 * (n - 1) + 12
-
--- there is space for a line of n points
-pub record LineFits (style : Style) (n : ℕ) (m : MeshState) : Type 0 where
-  pub vertices : rows style * n ≤ vertex_room m
-  pub indices : line_indices style n ≤ index_room m
-
-abbrev pub thin_stroke : Pen → List PathPoint → Figure
-thin_stroke pen points =
-    shaped (kind_of Thin pen.course (length points)) (swollen pen points)
-    (row_vertices (rule_on pen points) (thin_rows pen.feathering pen.width (fill_of pen.course)) (swollen pen points))
-
-abbrev pub thick_vertices : Course → Pen → (Pos2 → Color32) → List PathPoint → List Vertex
-thick_vertices Unjoined pen rule points = thick_line pen.feathering pen.width rule points
-thick_vertices (Around fill) pen rule points = row_vertices rule (thick_rows pen.feathering pen.width fill) points
-
-abbrev pub thick_stroke : Pen → List PathPoint → Figure
-thick_stroke pen points =
-    shaped (kind_of Thick pen.course (length points)) points (thick_vertices pen.course pen (rule_on pen points) points)
+abbrev pub thick_vertices : Course → Float → Float → (Paint → Pos2 → Vertex) → List PathPoint → List Vertex
+thick_vertices Unjoined feathering width brush points = thick_line feathering width brush points
+thick_vertices (Around fill) feathering width brush points = row_vertices brush (thick_rows feathering width fill) points
 
 -- the points of a visible fill within a hard stroke, whose vertices follow the stroke's
-abbrev pub hard_inside : Pen → List PathPoint → List PathPoint
-hard_inside pen points = if is_transparent (fill_of pen.course) then points else map (moved (Inward (half pen.width))) points
-
-abbrev pub hard_vertices : Course → Pen → (Pos2 → Color32) → List PathPoint → List Vertex
-hard_vertices Unjoined pen rule points = row_vertices rule (hard_rows pen.width) points
-hard_vertices (Around fill) pen rule points = row_vertices rule (hard_rows pen.width) points ++ (fill_figure plane.zero fill (hard_inside pen points)).vertices
-
-abbrev pub hard_stroke : Pen → List PathPoint → Figure
-hard_stroke pen points =
-    shaped (kind_of Hard pen.course (length points)) (hard_inside pen points) (hard_vertices pen.course pen (rule_on pen points) points)
-
-abbrev pub stroke_in : Style → Pen → List PathPoint → Figure
-stroke_in Hard pen points = hard_stroke pen points
-stroke_in Thin pen points = thin_stroke pen points
-stroke_in Thick pen points = thick_stroke pen points
+abbrev pub inset : Float → Color32 → List PathPoint → List PathPoint
+inset width fill points = if is_transparent fill then points else map (moved (Inward (half width))) points
 
 -- a stroke over points that lie in its middle
+abbrev pub stroke_with : Style → (Paint → Pos2 → Vertex) → Float → Float → Course → List PathPoint → Figure
+stroke_with Hard brush feathering width course points =
+    let inner = inset width (fill_of course) points in
+    shaped (kind_of Hard course (length points)) inner (row_vertices brush (hard_rows width) points ++ (fill_figure plane.zero (fill_of course) inner).vertices)
+stroke_with Thin brush feathering width course points =
+    let outer = swollen feathering width (fill_of course) points in
+    shaped (kind_of Thin course (length points)) outer (row_vertices brush (thin_rows feathering width (fill_of course)) outer)
+stroke_with Thick brush feathering width course points = shaped (kind_of Thick course (length points)) points (thick_vertices course feathering width brush points)
+
+-- the rule's answers for the box of a stroke over these points
+abbrev pub brush_on : Pen → List PathPoint → Paint → Pos2 → Vertex
+brush_on pen points = colored (pen.colour (stroke_box pen.feathering pen.width points))
+
 abbrev pub stroke_along : Pen → List PathPoint → Figure
-stroke_along pen points = stroke_in (style_of pen.feathering pen.width) pen points
+stroke_along pen points = stroke_with (style_of pen.feathering pen.width) (brush_on pen points) pen.feathering pen.width pen.course points
 
 -- fewer than two points give nothing, and a stroke of no width or of no colour gives only the fill
 abbrev pub stroke_figure : Pen → List PathPoint → Figure
 stroke_figure pen points =
     if nat_lt (length points) 2 then nothing points
     else if eq pen.width plane.zero then fill_figure pen.feathering (fill_of pen.course) points
-    else if is_clear pen.plain then fill_figure pen.feathering (fill_of pen.course) (shrunk pen.kind pen.width (faced pen points))
+    else if is_clear pen.plain then fill_figure pen.feathering (fill_of pen.course) (shrunk pen.kind pen.width (faced pen.course pen.kind points))
     else stroke_along pen (middle_of pen points)
 
+-- what kind of figure that is, for n points
+abbrev pub stroke_kind : Pen → ℕ → Kind
+stroke_kind pen n =
+    if nat_lt n 2 then Nothing
+    else if eq pen.width plane.zero || is_clear pen.plain then fill_kind pen.feathering (fill_of pen.course) n
+    else kind_of (style_of pen.feathering pen.width) pen.course n
+
 -- ---- the calls
-
--- an open line with a colour rule's meaning
-abbrev pub open_pen : {C : Type 0} → (C → Rect → Pos2 → Color32) → (C → Option Color32) → Float → PathStroke C → Pen
-open_pen colour plain feathering stroke = record {
-  feathering = feathering;
-  width = stroke.width;
-  kind = stroke.kind;
-  course = Unjoined;
-  colour = colour stroke.color;
-  plain = plain stroke.color;
-}
-
-abbrev pub are_places : List PathPoint → Bool
-are_places points = all_places (map (λ p. p.pos) points)
 
 abbrev pub stroke_allowed : Pen → List PathPoint → Bool
 stroke_allowed pen points = is_distance pen.width && (is_distance pen.feathering && are_places points)

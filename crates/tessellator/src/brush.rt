@@ -2,7 +2,7 @@
 ghost use Rattle.std.specs.Prelude.{◌≡◌};
 ghost use Rattle.emath.specs.declared.plane.Pos2.{Pos2};
 ghost use Rattle.ecolor.specs.declared.vertex.Vertex.{Vertex};
-ghost use Rattle.tessellator.specs.BrushedRows.{brushed_vertex};
+ghost use Rattle.tessellator.specs.Rows.{vertex_of};
 ghost use Rattle.tessellator.specs.Brushes.{colored, flat_color, plain, textured};
 ghost use Rattle.tessellator.specs.declared.row.Paint.{Paint};
 
@@ -32,7 +32,7 @@ pub(crate) trait Brush {
 
     /// The vertex of a row at a point.
     fn vertex(&self, row: Row, point: PathPoint) -> Vertex
-        ensures { result ≡ brushed_vertex (paints self.now) point row };
+        ensures { result ≡ vertex_of (paints self.now) point row };
 }
 
 /// Untextured: the core has the rule's colours for the box, asked at the vertex's own place.

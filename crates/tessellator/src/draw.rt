@@ -2,7 +2,7 @@
 ghost use Rattle.std.specs.Prelude.{◌≡◌, ◌*◌, ◌≤◌, length};
 ghost use Rattle.tessellator.specs.Kinds.{fewest, index_count, rows, vertex_count};
 ghost use Rattle.tessellator.specs.Outcome.{KindFits, mesh_after, shaped};
-ghost use Rattle.tessellator.specs.BrushedRows.{brushed_rows};
+ghost use Rattle.tessellator.specs.Rows.{row_vertices};
 ghost use Rattle.tessellator.specs.State.{mesh_state};
 
 use crate::brush::Brush;
@@ -87,7 +87,7 @@ pub(crate) fn draw_rows<B: Brush>(
     requires enough { fewest kind ≤ length points.now }
     requires all_rows { length points.now * length rows.now ≡ vertex_count kind (length points.now) }
     requires fits { KindFits kind (length points.now) (mesh_state out.old) }
-    ensures { mesh_state out.new ≡ mesh_after (shaped kind points.now (brushed_rows (B.paints brush.now) rows.now points.now)) (mesh_state out.old) }
+    ensures { mesh_state out.new ≡ mesh_after (shaped kind points.now (row_vertices (B.paints brush.now) rows.now points.now)) (mesh_state out.old) }
 {
     let base = out.next_vertex();
     out.add_rows(points, rows, brush);

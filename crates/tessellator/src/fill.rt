@@ -5,7 +5,6 @@ ghost use Rattle.std.specs.Prelude.{◌≡◌, ◌≤◌, length};
 ghost use Rattle.emath.specs.Plane as plane;
 ghost use Rattle.path.specs.Held.{held};
 ghost use Rattle.tessellator.specs.Faults.{told};
-ghost use Rattle.tessellator.specs.BrushedFills as brushed_fills;
 ghost use Rattle.tessellator.specs.Fills as fills;
 ghost use Rattle.tessellator.specs.Outcome.{Drawn, Grows, KindFits, Sized, after, outcome, sizing};
 ghost use Rattle.tessellator.specs.State.{mesh_state, vertex_room, with_vertices};
@@ -23,13 +22,13 @@ use path::point::{PathPoint, Side};
 
 /// A transparent fill and one of fewer than three points append nothing.
 fn is_unfilled(color: Color32, points: usize) -> bool
-    ensures { result ≡ brushed_fills.is_fill_empty color points }
+    ensures { result ≡ fills.is_unfilled color points }
 {
     color.is_transparent() || points < 3
 }
 
 pub(crate) fn fill_kind(feathering: f32, color: Color32, points: usize) -> Kind
-    ensures { result ≡ brushed_fills.fill_kind feathering color points }
+    ensures { result ≡ fills.fill_kind feathering color points }
 {
     if is_unfilled(color, points) {
         Kind::Nothing
@@ -73,8 +72,8 @@ pub(crate) fn draw_fill<B: Brush>(
     brush: &B,
     out: &mut Mesh,
 )
-    requires { KindFits (brushed_fills.fill_kind feathering color (length (held path.old).used)) (length (held path.old).used) (mesh_state out.old) }
-    ensures { Drawn (brushed_fills.filled_with (B.paints brush.now) feathering color (held path.old).used) (held path.old) (mesh_state out.old) (held path.new) (mesh_state out.new) }
+    requires { KindFits (fills.fill_kind feathering color (length (held path.old).used)) (length (held path.old).used) (mesh_state out.old) }
+    ensures { Drawn (fills.filled_with (B.paints brush.now) feathering color (held path.old).used) (held path.old) (mesh_state out.old) (held path.new) (mesh_state out.new) }
 {
     if is_unfilled(color, path.as_slice().len()) {
         return;
@@ -91,8 +90,8 @@ pub(crate) fn draw_fill<B: Brush>(
 
 /// The vertices of a hard fill within a stroke.
 pub(crate) fn add_inner_fill(points: &[PathPoint], color: Color32, out: &mut Mesh)
-    requires { length (brushed_fills.plain_fill plane.zero color points.now).vertices ≤ vertex_room (mesh_state out.old) }
-    ensures { mesh_state out.new ≡ with_vertices (mesh_state out.old) (brushed_fills.plain_fill plane.zero color points.now).vertices }
+    requires { length (fills.fill_figure plane.zero color points.now).vertices ≤ vertex_room (mesh_state out.old) }
+    ensures { mesh_state out.new ≡ with_vertices (mesh_state out.old) (fills.fill_figure plane.zero color points.now).vertices }
 {
     if !is_unfilled(color, points.len()) {
         out.add_rows(points, &hard_fill_rows(color), &Plain);
@@ -101,7 +100,7 @@ pub(crate) fn add_inner_fill(points: &[PathPoint], color: Color32, out: &mut Mes
 
 /// What filling the path would append, with space enough.
 pub fn size_of_fill(path: &Path, feathering: f32, color: Color32) -> Result<Appended, FigureFault>
-    ensures { told result ≡ sizing (brushed_fills.fill_allowed feathering (held path.now).used) (brushed_fills.plain_fill feathering color (held path.now).used) }
+    ensures { told result ≡ sizing (fills.fill_allowed feathering (held path.now).used) (fills.fill_figure feathering color (held path.now).used) }
 {
     let points = path.as_slice();
     if !is_distance(feathering) || !all_places(points) {
@@ -118,9 +117,9 @@ pub fn fill(
     color: Color32,
     out: &mut Mesh,
 ) -> Result<Appended, FigureFault>
-    ensures outcome { after result path.new out.new ≡ outcome (brushed_fills.fill_allowed feathering (held path.old).used) (brushed_fills.plain_fill feathering color (held path.old).used) (held path.old) (mesh_state out.old) }
+    ensures outcome { after result path.new out.new ≡ outcome (fills.fill_allowed feathering (held path.old).used) (fills.fill_figure feathering color (held path.old).used) (held path.old) (mesh_state out.old) }
     ensures grows { Grows (told result) (held path.old) (mesh_state out.old) (held path.new) (mesh_state out.new) }
-    ensures sized { Sized (told result) (sizing (brushed_fills.fill_allowed feathering (held path.old).used) (brushed_fills.plain_fill feathering color (held path.old).used)) (mesh_state out.old) }
+    ensures sized { Sized (told result) (sizing (fills.fill_allowed feathering (held path.old).used) (fills.fill_figure feathering color (held path.old).used)) (mesh_state out.old) }
 {
     let size = size_of_fill(path, feathering, color)?;
     if let Some(fault) = out.refusal(size) {

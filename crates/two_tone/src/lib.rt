@@ -5,7 +5,8 @@ ghost use Rattle.std.specs.Prelude.{◌≡◌, false, None};
 ghost use Rattle.path.specs.Held.{held};
 ghost use Rattle.tessellator.specs.Outcome.{after};
 ghost use Rattle.tessellator.specs.State.{mesh_state};
-ghost use Rattle.tessellator.specs.Strokes.{open_pen, stroke_outcome};
+ghost use Rattle.tessellator.specs.Strokes.{pen_of, stroke_outcome};
+ghost use Rattle.tessellator.specs.declared.stroke.Course.TheVariants.{Unjoined};
 ghost use Rattle.two_tone.specs.Tones.{tone_at};
 ghost use Rattle.std.proofs.Common.{rules};
 
@@ -64,7 +65,7 @@ pub fn stroke_in_two_tones(
     stroke: &PathStroke<TwoTone>,
     out: &mut Mesh,
 ) -> Result<Appended, FigureFault>
-    ensures { after result path.new out.new ≡ stroke_outcome (open_pen (λ s _ p. tone_at s p) (λ _. None) feathering stroke.now) (held path.old) (mesh_state out.old) }
+    ensures { after result path.new out.new ≡ stroke_outcome (pen_of (λ s _ p. tone_at s p) (λ _. None) feathering Unjoined stroke.now) (held path.old) (mesh_state out.old) }
 {
     stroke_open(path, feathering, stroke, out)
 }

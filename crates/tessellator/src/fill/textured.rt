@@ -2,7 +2,7 @@
 ghost use Rattle.std.specs.Prelude.{◌≡◌};
 ghost use Rattle.path.specs.Held.{held};
 ghost use Rattle.tessellator.specs.Faults.{told};
-ghost use Rattle.tessellator.specs.BrushedFills as brushed_fills;
+ghost use Rattle.tessellator.specs.Fills as fills;
 ghost use Rattle.tessellator.specs.Outcome.{after, sizing, textured_outcome};
 ghost use Rattle.tessellator.specs.State.{mesh_state};
 
@@ -23,7 +23,7 @@ pub fn size_of_fill_with_uv<U: TextureRule>(
     _texture_id: TextureId,
     uv_from_pos: &U,
 ) -> Result<Appended, FigureFault>
-    ensures { told result ≡ sizing (brushed_fills.fill_allowed feathering (held path.now).used) (brushed_fills.textured_figure feathering color (U.lies uv_from_pos.now) (held path.now).used) }
+    ensures { told result ≡ sizing (fills.fill_allowed feathering (held path.now).used) (fills.textured_figure feathering color (U.lies uv_from_pos.now) (held path.now).used) }
 {
     size_of_fill(path, feathering, color)
 }
@@ -37,7 +37,7 @@ pub fn fill_with_uv<U: TextureRule>(
     uv_from_pos: &U,
     out: &mut Mesh,
 ) -> Result<Appended, FigureFault>
-    ensures { after result path.new out.new ≡ textured_outcome (brushed_fills.fill_allowed feathering (held path.old).used) color texture_id (brushed_fills.textured_figure feathering color (U.lies uv_from_pos.now) (held path.old).used) (held path.old) (mesh_state out.old) }
+    ensures { after result path.new out.new ≡ textured_outcome (fills.fill_allowed feathering (held path.old).used) color texture_id (fills.textured_figure feathering color (U.lies uv_from_pos.now) (held path.old).used) (held path.old) (mesh_state out.old) }
 {
     let size = size_of_fill(path, feathering, color)?;
     if color.is_transparent() {

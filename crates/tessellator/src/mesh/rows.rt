@@ -1,6 +1,6 @@
 //! The rows of vertices beside a path.
 ghost use Rattle.std.specs.Prelude.{◌≡◌, ◌*◌, ◌≤◌, length};
-ghost use Rattle.tessellator.specs.BrushedRows.{brushed_vertices, brushed_rows};
+ghost use Rattle.tessellator.specs.Rows.{vertices_at, row_vertices};
 ghost use Rattle.tessellator.specs.State.{mesh_state, with_vertices, vertex_room};
 
 use super::Mesh;
@@ -11,7 +11,7 @@ use path::point::PathPoint;
 impl<'a> Mesh<'a> {
     fn add_vertices_at<B: Brush>(&mut self, point: PathPoint, rows: &[Row], brush: &B)
         requires { length rows.now ≤ vertex_room (mesh_state self.old) }
-        ensures { mesh_state self.new ≡ with_vertices (mesh_state self.old) (brushed_vertices (B.paints brush.now) rows.now point) }
+        ensures { mesh_state self.new ≡ with_vertices (mesh_state self.old) (vertices_at (B.paints brush.now) rows.now point) }
     {
         for row in rows {
             self.add_vertex(brush.vertex(*row, point));
@@ -21,7 +21,7 @@ impl<'a> Mesh<'a> {
     /// The vertices of all rows at each point.
     pub(crate) fn add_rows<B: Brush>(&mut self, points: &[PathPoint], rows: &[Row], brush: &B)
         requires { length points.now * length rows.now ≤ vertex_room (mesh_state self.old) }
-        ensures { mesh_state self.new ≡ with_vertices (mesh_state self.old) (brushed_rows (B.paints brush.now) rows.now points.now) }
+        ensures { mesh_state self.new ≡ with_vertices (mesh_state self.old) (row_vertices (B.paints brush.now) rows.now points.now) }
     {
         for point in points {
             self.add_vertices_at(*point, rows, brush);

@@ -4,7 +4,6 @@ ghost use Rattle.path.specs.Held.{held};
 ghost use Rattle.tessellator.specs.Faults.{told};
 ghost use Rattle.tessellator.specs.Outcome.{Drawn, Grows, KindFits, Sized, after};
 ghost use Rattle.tessellator.specs.State.{mesh_state};
-ghost use Rattle.tessellator.specs.BrushedStrokes as brushed;
 ghost use Rattle.tessellator.specs.Strokes as strokes;
 ghost use Rattle.tessellator.specs.declared.stroke.Course.TheVariants.{Around};
 
@@ -25,7 +24,7 @@ use path::path::Path;
 impl PathType {
     /// A closed stroke without a fill.
     fn course(self) -> Course
-        ensures { result ≡ brushed.course_of self }
+        ensures { result ≡ strokes.course_of self }
     {
         match self {
             PathType::Open => Course::Unjoined,
@@ -47,7 +46,7 @@ impl<C: ColorRule> PathStroke<C> {
 
     /// The kind of figure that a path of so many points gives. Without a width or a colour there is only the fill.
     fn kind(&self, feathering: f32, course: Course, points: usize) -> Kind
-        ensures { result ≡ brushed.stroke_kind (brushed.pen_of C.colour C.plain feathering course self.now) points }
+        ensures { result ≡ strokes.stroke_kind (strokes.pen_of C.colour C.plain feathering course self.now) points }
     {
         if points < 2 {
             Kind::Nothing
@@ -67,8 +66,8 @@ fn draw_stroke<C: ColorRule>(
     stroke: &PathStroke<C>,
     out: &mut Mesh,
 )
-    requires { KindFits (brushed.stroke_kind (brushed.pen_of C.colour C.plain feathering course stroke.now) (length (held path.old).used)) (length (held path.old).used) (mesh_state out.old) }
-    ensures { Drawn (brushed.brushed_figure (brushed.pen_of C.colour C.plain feathering course stroke.now) (held path.old).used) (held path.old) (mesh_state out.old) (held path.new) (mesh_state out.new) }
+    requires { KindFits (strokes.stroke_kind (strokes.pen_of C.colour C.plain feathering course stroke.now) (length (held path.old).used)) (length (held path.old).used) (mesh_state out.old) }
+    ensures { Drawn (strokes.stroke_figure (strokes.pen_of C.colour C.plain feathering course stroke.now) (held path.old).used) (held path.old) (mesh_state out.old) (held path.new) (mesh_state out.new) }
 {
     if path.as_slice().len() < 2 {
         return;
@@ -93,7 +92,7 @@ pub(super) fn size_along<C: ColorRule>(
     course: Course,
     stroke: &PathStroke<C>,
 ) -> Result<Appended, FigureFault>
-    ensures { told result ≡ brushed.brushed_sizing (brushed.pen_of C.colour C.plain feathering course stroke.now) (held path.now) }
+    ensures { told result ≡ strokes.stroke_sizing (strokes.pen_of C.colour C.plain feathering course stroke.now) (held path.now) }
 {
     let points = path.as_slice();
     if !is_distance(stroke.width) || !is_distance(feathering) || !all_places(points) {
@@ -110,9 +109,9 @@ pub(super) fn stroke_along<C: ColorRule>(
     stroke: &PathStroke<C>,
     out: &mut Mesh,
 ) -> Result<Appended, FigureFault>
-    ensures outcome { after result path.new out.new ≡ brushed.brushed_outcome (brushed.pen_of C.colour C.plain feathering course stroke.now) (held path.old) (mesh_state out.old) }
+    ensures outcome { after result path.new out.new ≡ strokes.stroke_outcome (strokes.pen_of C.colour C.plain feathering course stroke.now) (held path.old) (mesh_state out.old) }
     ensures grows { Grows (told result) (held path.old) (mesh_state out.old) (held path.new) (mesh_state out.new) }
-    ensures sized { Sized (told result) (brushed.brushed_sizing (brushed.pen_of C.colour C.plain feathering course stroke.now) (held path.old)) (mesh_state out.old) }
+    ensures sized { Sized (told result) (strokes.stroke_sizing (strokes.pen_of C.colour C.plain feathering course stroke.now) (held path.old)) (mesh_state out.old) }
 {
     let size = size_along(path, feathering, course, stroke)?;
     if let Some(fault) = out.refusal(size) {
@@ -129,7 +128,7 @@ pub fn size_of_stroke<C: ColorRule>(
     path_type: PathType,
     stroke: &PathStroke<C>,
 ) -> Result<Appended, FigureFault>
-    ensures { told result ≡ brushed.brushed_sizing (brushed.pen_of C.colour C.plain feathering (brushed.course_of path_type) stroke.now) (held path.now) }
+    ensures { told result ≡ strokes.stroke_sizing (strokes.pen_of C.colour C.plain feathering (strokes.course_of path_type) stroke.now) (held path.now) }
 {
     size_along(path, feathering, path_type.course(), stroke)
 }
@@ -142,9 +141,9 @@ pub fn stroke<C: ColorRule>(
     stroke: &PathStroke<C>,
     out: &mut Mesh,
 ) -> Result<Appended, FigureFault>
-    ensures outcome { after result path.new out.new ≡ brushed.brushed_outcome (brushed.pen_of C.colour C.plain feathering (brushed.course_of path_type) stroke.now) (held path.old) (mesh_state out.old) }
+    ensures outcome { after result path.new out.new ≡ strokes.stroke_outcome (strokes.pen_of C.colour C.plain feathering (strokes.course_of path_type) stroke.now) (held path.old) (mesh_state out.old) }
     ensures grows { Grows (told result) (held path.old) (mesh_state out.old) (held path.new) (mesh_state out.new) }
-    ensures sized { Sized (told result) (brushed.brushed_sizing (brushed.pen_of C.colour C.plain feathering (brushed.course_of path_type) stroke.now) (held path.old)) (mesh_state out.old) }
+    ensures sized { Sized (told result) (strokes.stroke_sizing (strokes.pen_of C.colour C.plain feathering (strokes.course_of path_type) stroke.now) (held path.old)) (mesh_state out.old) }
 {
     stroke_along(path, feathering, path_type.course(), stroke, out)
 }
@@ -156,7 +155,7 @@ pub fn size_of_fill_and_stroke<C: ColorRule>(
     fill: Color32,
     stroke: &PathStroke<C>,
 ) -> Result<Appended, FigureFault>
-    ensures { told result ≡ brushed.brushed_sizing (brushed.pen_of C.colour C.plain feathering (Around fill) stroke.now) (held path.now) }
+    ensures { told result ≡ strokes.stroke_sizing (strokes.pen_of C.colour C.plain feathering (Around fill) stroke.now) (held path.now) }
 {
     size_along(path, feathering, Course::Around(fill), stroke)
 }
@@ -169,9 +168,9 @@ pub fn fill_and_stroke<C: ColorRule>(
     stroke: &PathStroke<C>,
     out: &mut Mesh,
 ) -> Result<Appended, FigureFault>
-    ensures outcome { after result path.new out.new ≡ brushed.brushed_outcome (brushed.pen_of C.colour C.plain feathering (Around fill) stroke.now) (held path.old) (mesh_state out.old) }
+    ensures outcome { after result path.new out.new ≡ strokes.stroke_outcome (strokes.pen_of C.colour C.plain feathering (Around fill) stroke.now) (held path.old) (mesh_state out.old) }
     ensures grows { Grows (told result) (held path.old) (mesh_state out.old) (held path.new) (mesh_state out.new) }
-    ensures sized { Sized (told result) (brushed.brushed_sizing (brushed.pen_of C.colour C.plain feathering (Around fill) stroke.now) (held path.old)) (mesh_state out.old) }
+    ensures sized { Sized (told result) (strokes.stroke_sizing (strokes.pen_of C.colour C.plain feathering (Around fill) stroke.now) (held path.old)) (mesh_state out.old) }
 {
     stroke_along(path, feathering, Course::Around(fill), stroke, out)
 }

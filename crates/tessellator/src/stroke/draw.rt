@@ -4,7 +4,6 @@ ghost use Rattle.path.specs.Held.{held};
 ghost use Rattle.tessellator.specs.Boxes.{stroke_box};
 ghost use Rattle.tessellator.specs.Outcome.{Drawn, KindFits, mesh_after};
 ghost use Rattle.tessellator.specs.State.{mesh_state, with_vertices, vertex_room};
-ghost use Rattle.tessellator.specs.BrushedStrokes as brushed;
 ghost use Rattle.tessellator.specs.Strokes as strokes;
 ghost use Rattle.tessellator.specs.declared.kind.Kind.TheVariants.{Line};
 ghost use Rattle.tessellator.specs.declared.stroke.Course.TheVariants.{Unjoined};
@@ -72,7 +71,7 @@ fn draw_thin<B: Brush>(
 )
     requires enough { 2 ≤ length (held path.old).used }
     requires fits { KindFits (strokes.kind_of Thin course (length (held path.old).used)) (length (held path.old).used) (mesh_state out.old) }
-    ensures { Drawn (brushed.stroke_with Thin (B.paints brush.now) feathering width course (held path.old).used) (held path.old) (mesh_state out.old) (held path.new) (mesh_state out.new) }
+    ensures { Drawn (strokes.stroke_with Thin (B.paints brush.now) feathering width course (held path.old).used) (held path.old) (mesh_state out.old) (held path.new) (mesh_state out.new) }
 {
     let fill = course.fill();
     swell(path, feathering, width, fill);
@@ -97,7 +96,7 @@ fn add_thick_rows<B: Brush>(
 )
     requires enough { 2 ≤ length points.now }
     requires space { length points.now * 4 ≤ vertex_room (mesh_state out.old) }
-    ensures { mesh_state out.new ≡ with_vertices (mesh_state out.old) (brushed.brushed_thick_line feathering width (B.paints brush.now) points.now) }
+    ensures { mesh_state out.new ≡ with_vertices (mesh_state out.old) (strokes.thick_line feathering width (B.paints brush.now) points.now) }
 {
     let last = points.len() - 1;
     out.add_rows(
@@ -129,7 +128,7 @@ fn draw_thick<B: Brush>(
     requires enough { 2 ≤ length points.now }
     requires few { length points.now ≤ 1048576 }
     requires fits { KindFits (strokes.kind_of Thick course (length points.now)) (length points.now) (mesh_state out.old) }
-    ensures { mesh_state out.new ≡ mesh_after (brushed.stroke_with Thick (B.paints brush.now) feathering width course points.now) (mesh_state out.old) }
+    ensures { mesh_state out.new ≡ mesh_after (strokes.stroke_with Thick (B.paints brush.now) feathering width course points.now) (mesh_state out.old) }
 {
     let kind = kind_of(Style::Thick, course, points.len());
     match course {
@@ -161,7 +160,7 @@ fn draw_hard<B: Brush>(
 )
     requires enough { 2 ≤ length (held path.old).used }
     requires fits { KindFits (strokes.kind_of Hard course (length (held path.old).used)) (length (held path.old).used) (mesh_state out.old) }
-    ensures { Drawn (brushed.stroke_with Hard (B.paints brush.now) feathering width course (held path.old).used) (held path.old) (mesh_state out.old) (held path.new) (mesh_state out.new) }
+    ensures { Drawn (strokes.stroke_with Hard (B.paints brush.now) feathering width course (held path.old).used) (held path.old) (mesh_state out.old) (held path.new) (mesh_state out.new) }
 {
     let fill = course.fill();
     let n = path.as_slice().len();
@@ -182,7 +181,7 @@ pub(crate) fn draw_along<C: ColorRule>(
 )
     requires enough { 2 ≤ length (held path.old).used }
     requires fits { KindFits (strokes.kind_of (strokes.style_of feathering stroke.now.width) course (length (held path.old).used)) (length (held path.old).used) (mesh_state out.old) }
-    ensures { Drawn (brushed.brushed_along (brushed.pen_of C.colour C.plain feathering course stroke.now) (held path.old).used) (held path.old) (mesh_state out.old) (held path.new) (mesh_state out.new) }
+    ensures { Drawn (strokes.stroke_along (strokes.pen_of C.colour C.plain feathering course stroke.now) (held path.old).used) (held path.old) (mesh_state out.old) (held path.new) (mesh_state out.new) }
 {
     let width = stroke.width;
     let bounds = box_for(path.as_slice(), feathering, width, &stroke.color);

@@ -1,7 +1,6 @@
 //! How a stroke moves the points of its path.
 ghost use Rattle.std.specs.Prelude.{◌≡◌};
 ghost use Rattle.path.specs.Held.{held, rewritten};
-ghost use Rattle.tessellator.specs.BrushedStrokes as brushed;
 ghost use Rattle.tessellator.specs.Strokes as strokes;
 
 use super::{Course, StrokeKind};
@@ -43,7 +42,7 @@ impl StrokeKind {
 
 /// Turns a path that runs counterclockwise, where the fill or the kind asks for an inside.
 pub(crate) fn face(path: &mut Path, course: Course, kind: StrokeKind)
-    ensures { held path.new ≡ rewritten (held path.old) (brushed.faced_by course kind (held path.old).used) }
+    ensures { held path.new ≡ rewritten (held path.old) (strokes.faced course kind (held path.old).used) }
 {
     if !course.fill().is_transparent() || course.is_loop() && !kind.is_middle() {
         path.turn_clockwise();
@@ -74,7 +73,7 @@ pub(crate) fn shrink(path: &mut Path, kind: StrokeKind, width: f32)
 
 /// Moves the points of a filled thin stroke out, so that the filled area stays as it is.
 pub(crate) fn swell(path: &mut Path, feathering: f32, width: f32, fill: Color32)
-    ensures { held path.new ≡ rewritten (held path.old) (brushed.swelled feathering width fill (held path.old).used) }
+    ensures { held path.new ≡ rewritten (held path.old) (strokes.swollen feathering width fill (held path.old).used) }
 {
     if !fill.is_transparent() && width < feathering {
         path.move_points(Side::Outward(0.5 * (feathering - width)));
@@ -83,7 +82,7 @@ pub(crate) fn swell(path: &mut Path, feathering: f32, width: f32, fill: Color32)
 
 /// Moves the points of a visible fill to the inner side of its hard stroke.
 pub(crate) fn set_in(path: &mut Path, width: f32, fill: Color32)
-    ensures { held path.new ≡ rewritten (held path.old) (brushed.inset width fill (held path.old).used) }
+    ensures { held path.new ≡ rewritten (held path.old) (strokes.inset width fill (held path.old).used) }
 {
     if !fill.is_transparent() {
         path.move_points(Side::Inward(0.5 * width));

@@ -1,11 +1,10 @@
 //! Stroking a path as an open line.
 ghost use Rattle.std.specs.Prelude.{◌≡◌};
 ghost use Rattle.path.specs.Held.{held};
-ghost use Rattle.tessellator.specs.BrushedStrokes as brushed;
+ghost use Rattle.tessellator.specs.Strokes as strokes;
 ghost use Rattle.tessellator.specs.Faults.{told};
 ghost use Rattle.tessellator.specs.Outcome.{Grows, Sized, after};
 ghost use Rattle.tessellator.specs.State.{mesh_state};
-ghost use Rattle.tessellator.specs.Strokes as strokes;
 ghost use Rattle.tessellator.specs.declared.stroke.Course.TheVariants.{Unjoined};
 
 use super::calls::{size_along, stroke_along};
@@ -21,7 +20,7 @@ pub fn size_of_stroke_open<C: ColorRule>(
     feathering: f32,
     stroke: &PathStroke<C>,
 ) -> Result<Appended, FigureFault>
-    ensures { told result ≡ strokes.stroke_sizing (strokes.open_pen C.colour C.plain feathering stroke.now) (held path.now) }
+    ensures { told result ≡ strokes.stroke_sizing (strokes.pen_of C.colour C.plain feathering Unjoined stroke.now) (held path.now) }
 {
     size_along(path, feathering, Course::Unjoined, stroke)
 }
@@ -33,10 +32,9 @@ pub fn stroke_open<C: ColorRule>(
     stroke: &PathStroke<C>,
     out: &mut Mesh,
 ) -> Result<Appended, FigureFault>
-    ensures outcome { after result path.new out.new ≡ strokes.stroke_outcome (strokes.open_pen C.colour C.plain feathering stroke.now) (held path.old) (mesh_state out.old) }
+    ensures outcome { after result path.new out.new ≡ strokes.stroke_outcome (strokes.pen_of C.colour C.plain feathering Unjoined stroke.now) (held path.old) (mesh_state out.old) }
     ensures grows { Grows (told result) (held path.old) (mesh_state out.old) (held path.new) (mesh_state out.new) }
-    ensures open_course { after result path.new out.new ≡ brushed.brushed_outcome (brushed.pen_of C.colour C.plain feathering Unjoined stroke.now) (held path.old) (mesh_state out.old) }
-    ensures sized { Sized (told result) (strokes.stroke_sizing (strokes.open_pen C.colour C.plain feathering stroke.now) (held path.old)) (mesh_state out.old) }
+    ensures sized { Sized (told result) (strokes.stroke_sizing (strokes.pen_of C.colour C.plain feathering Unjoined stroke.now) (held path.old)) (mesh_state out.old) }
 {
     stroke_along(path, feathering, Course::Unjoined, stroke, out)
 }

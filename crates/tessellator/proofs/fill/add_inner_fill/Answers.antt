@@ -2,7 +2,7 @@ use Rattle.std.proofs.Common.{◌*◌, length, sym, ap, ◌∙◌, arith}
 use Rattle.emath.specs.Plane as plane
 use Rattle.tessellator.specs.Brushes.{plain}
 use Rattle.tessellator.specs.Fills.{hard_fill_rows}
-use Rattle.tessellator.specs.BrushedRows.{brushed_rows}
+use Rattle.tessellator.specs.Rows.{row_vertices}
 use Rattle.tessellator.specs.State.{mesh_state, with_vertices}
 use Rattle.tessellator.proofs.Growth.{vertices_none}
 use Rattle.tessellator.proofs.Joining.{length-rows}
@@ -20,7 +20,7 @@ add_rows-requires c =
 pub returns-then-not-is_unfilled : goal.returns-then-not-is_unfilled
 returns-then-not-is_unfilled c =
     c.add_rows.ensures
-    ∙ ap (λ rows. with_vertices (mesh_state c.args.out.now) (brushed_rows plain rows c.args.points.now)) c.hard_fill_rows.ensures
+    ∙ ap (λ rows. with_vertices (mesh_state c.args.out.now) (row_vertices plain rows c.args.points.now)) c.hard_fill_rows.ensures
     ∙ ap (λ f. with_vertices (mesh_state c.args.out.now) f.vertices) (sym (inner_fill c.args.color c.args.points.now (sym c.is_unfilled.ensures ∙ c.if-not-is_unfilled.true)))
 
 pub returns-else-not-is_unfilled : goal.returns-else-not-is_unfilled

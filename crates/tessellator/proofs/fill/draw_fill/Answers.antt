@@ -4,7 +4,7 @@ use Rattle.path.specs.Held.{Held, held}
 use Rattle.path.specs.declared.point.PathPoint.{PathPoint}
 use Rattle.path.proofs.Growing.{few_used}
 use Rattle.path.proofs.Turning.{length-turned}
-use Rattle.tessellator.specs.BrushedFills.{is_fill_empty, fill_kind}
+use Rattle.tessellator.specs.Fills.{is_unfilled, fill_kind}
 use Rattle.tessellator.proofs.Drawn.{nothing_drawn}
 use Rattle.tessellator.proofs.Shapes.{filled_many, unfilled, fits_as}
 use Rattle.tessellator.proofs.fill.draw_fill.Goals as goal
@@ -12,13 +12,13 @@ use Rattle.tessellator.proofs.fill.draw_fill.Goals as goal
 pub returns-then-is_unfilled : goal.returns-then-is_unfilled
 returns-then-is_unfilled g c =
     let p = held c.args.path.now in
-    let none = ap (λ l. is_fill_empty c.args.color (length l)) (sym c.as_slice.ensures) ∙ sym c.is_unfilled.ensures ∙ c.if-is_unfilled.true in
+    let none = ap (λ l. is_unfilled c.args.color (length l)) (sym c.as_slice.ensures) ∙ sym c.is_unfilled.ensures ∙ c.if-is_unfilled.true in
     nothing_drawn _ p.used p p _ (unfilled (g.B.Brush.paints c.args.brush.now) c.args.feathering c.args.color p.used none) refl
 
 pub draw_rows-requires : goal.draw_rows-requires
 draw_rows-requires g c =
     let p = held c.args.path.now in
-    let some = ap (λ l. is_fill_empty c.args.color (length l)) (sym c.as_slice.ensures) ∙ sym c.is_unfilled.ensures ∙ c.if-is_unfilled.false in
+    let some = ap (λ l. is_unfilled c.args.color (length l)) (sym c.as_slice.ensures) ∙ sym c.is_unfilled.ensures ∙ c.if-is_unfilled.false in
     let now-is = c.as_slice-then-feathering.ensures ∙ ap (λ (h : Held PathPoint). h.used) c.turn_clockwise.ensures in
     let long = ap length now-is ∙ length-turned p.used in
     let few = few_used c.args.path.now in

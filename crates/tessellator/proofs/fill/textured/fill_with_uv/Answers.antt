@@ -1,7 +1,7 @@
 use Rattle.std.proofs.Common.{length, sym, ap, ◌∙◌, subst, arith}
 use Rattle.path.specs.Held.{held}
 use Rattle.tessellator.specs.Brushes.{textured}
-use Rattle.tessellator.specs.BrushedFills.{fill_allowed, textured_figure}
+use Rattle.tessellator.specs.Fills.{fill_allowed, textured_figure}
 use Rattle.tessellator.specs.Outcome.{Fits}
 use Rattle.tessellator.specs.State.{MeshState, mesh_state}
 use Rattle.tessellator.proofs.Shapes.{fill_shape, shape_fits, same_sizing}

@@ -1,7 +1,7 @@
 use Rattle.std.proofs.Common.{take, arith}
 use Rattle.std.proofs.lemmas.List.{length-take-le, take_all}
 use Rattle.path.specs.Turns.{no_point}
-use Rattle.tessellator.specs.BrushedRows.{brushed_vertices}
+use Rattle.tessellator.specs.Rows.{vertices_at}
 use Rattle.tessellator.proofs.Growth.{vertices_none, vertices_step, vertex_room_left}
 use Rattle.tessellator.proofs.Joining.{joined_next, length-rows, one_more_fits}
 use Rattle.tessellator.proofs.mesh.Mesh.add_rows.Goals as goal
@@ -21,7 +21,7 @@ add_vertices_at-requires g c =
 pub loop-point-preserved : goal.loop-point-preserved
 loop-point-preserved g c =
     vertices_step _ _ _ _ _ _ c.loop-point.invariant c.add_vertices_at.ensures
-    (joined_next (brushed_vertices (g.B.Brush.paints c.args.brush.now) c.args.rows.now) c.args.points.now c.loop-point.point-index no_point c.loop-point-test.true)
+    (joined_next (vertices_at (g.B.Brush.paints c.args.brush.now) c.args.rows.now) c.args.points.now c.loop-point.point-index no_point c.loop-point-test.true)
 
 pub returns : goal.returns
 returns g c = let e = take_all c.loop-point.point-index c.args.points.now c.loop-point-test.false in rw e at c.loop-point.invariant

@@ -2,9 +2,8 @@ use Rattle.std.proofs.Common.{length, sym, refl, ap, ◌∙◌, arith}
 use Rattle.std.proofs.lemmas.Bool.{or_right}
 use Rattle.path.specs.Held.{Held, held}
 use Rattle.path.specs.declared.point.PathPoint.{PathPoint}
-use Rattle.tessellator.specs.BrushedFills.{fill_kind}
-use Rattle.tessellator.specs.BrushedStrokes.{pen_of, stroke_kind}
-use Rattle.tessellator.specs.Strokes.{kind_of, style_of}
+use Rattle.tessellator.specs.Fills.{fill_kind}
+use Rattle.tessellator.specs.Strokes.{pen_of, stroke_kind, kind_of, style_of}
 use Rattle.tessellator.proofs.Drawn.{nothing_drawn}
 use Rattle.tessellator.proofs.Shapes.{fits_as}
 use Rattle.tessellator.proofs.Stroked.{length-faced, length-shrunk, length-centred, stroke_few, kind_clear, kind_along}

@@ -2,7 +2,7 @@ use Rattle.std.proofs.Common.{◌≤◌, length, sym, ap, ◌∙◌, subst, arit
 use Rattle.path.specs.Held.{held}
 use Rattle.path.proofs.Growing.{few_used}
 use Rattle.tessellator.specs.Kinds.{fewest}
-use Rattle.tessellator.specs.BrushedStrokes.{pen_of, stroke_kind}
+use Rattle.tessellator.specs.Strokes.{pen_of, stroke_kind}
 use Rattle.tessellator.specs.declared.kind.Kind.{Kind}
 use Rattle.tessellator.proofs.Shapes.{shape_size}
 use Rattle.tessellator.proofs.Stroked.{stroke_shape}

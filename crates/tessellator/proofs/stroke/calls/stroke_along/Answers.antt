@@ -1,8 +1,7 @@
 use Rattle.std.proofs.lemmas.Result.{err_from_is_err_and}
 use Rattle.path.specs.Held.{held}
 use Rattle.tessellator.specs.State.{mesh_state}
-use Rattle.tessellator.specs.BrushedStrokes.{pen_of, brushed_figure}
-use Rattle.tessellator.specs.Strokes.{stroke_allowed}
+use Rattle.tessellator.specs.Strokes.{pen_of, stroke_figure, stroke_allowed}
 use Rattle.tessellator.proofs.Drawn.{limits_kept, refusal_kept, space_fits, drawn_kept}
 use Rattle.tessellator.proofs.Shapes.{shape_fits}
 use Rattle.tessellator.proofs.Stroked.{stroke_shape}
@@ -13,14 +12,14 @@ returns-in_err-size g c =
     let p = held c.args.path.now in
     let pen = pen_of g.C.ColorRule.colour g.C.ColorRule.plain c.args.feathering c.args.course c.args.stroke.now in
     let e = err_from_is_err_and c.from_residual.result c.from_residual.ensures.1 in
-    let k = limits_kept (stroke_allowed pen p.used) (brushed_figure pen p.used) p (mesh_state c.args.out.now) (stroke_shape pen p.used).points _ c.in_err-size.ensures in
+    let k = limits_kept (stroke_allowed pen p.used) (stroke_figure pen p.used) p (mesh_state c.args.out.now) (stroke_shape pen p.used).points _ c.in_err-size.ensures in
     rw (e.1, e.2) (record { outcome = k.outcome; grows = k.grows; sized = k.sized })
 
 pub returns-in-Some : goal.returns-in-Some
 returns-in-Some g c =
     let p = held c.args.path.now in
     let pen = pen_of g.C.ColorRule.colour g.C.ColorRule.plain c.args.feathering c.args.course c.args.stroke.now in
-    let k = refusal_kept (stroke_allowed pen p.used) (brushed_figure pen p.used) p (mesh_state c.args.out.now) (stroke_shape pen p.used).points c.in_ok-size.size c.in_ok-size.ensures _ c.in-Some.ensures in
+    let k = refusal_kept (stroke_allowed pen p.used) (stroke_figure pen p.used) p (mesh_state c.args.out.now) (stroke_shape pen p.used).points c.in_ok-size.size c.in_ok-size.ensures _ c.in-Some.ensures in
     record { outcome = k.outcome; grows = k.grows; sized = k.sized }
 
 pub draw_stroke-requires : goal.draw_stroke-requires
@@ -29,12 +28,12 @@ draw_stroke-requires g c =
     let m = mesh_state c.args.out.now in
     let pen = pen_of g.C.ColorRule.colour g.C.ColorRule.plain c.args.feathering c.args.course c.args.stroke.now in
     let shape = stroke_shape pen p.used in
-    shape_fits shape m (space_fits (stroke_allowed pen p.used) (brushed_figure pen p.used) p m shape.points c.in_ok-size.size c.in_ok-size.ensures c.in_default.ensures)
+    shape_fits shape m (space_fits (stroke_allowed pen p.used) (stroke_figure pen p.used) p m shape.points c.in_ok-size.size c.in_ok-size.ensures c.in_default.ensures)
 
 pub returns : goal.returns
 returns g c =
     let p = held c.args.path.now in
     let pen = pen_of g.C.ColorRule.colour g.C.ColorRule.plain c.args.feathering c.args.course c.args.stroke.now in
-    let k = drawn_kept (stroke_allowed pen p.used) (brushed_figure pen p.used) p (mesh_state c.args.out.now) (stroke_shape pen p.used).points c.in_ok-size.size c.in_ok-size.ensures
+    let k = drawn_kept (stroke_allowed pen p.used) (stroke_figure pen p.used) p (mesh_state c.args.out.now) (stroke_shape pen p.used).points c.in_ok-size.size c.in_ok-size.ensures
     (held c.draw_stroke.new.path) (mesh_state c.draw_stroke.new.out) c.in_default.ensures c.draw_stroke.ensures in
     record { outcome = k.outcome; grows = k.grows; sized = k.sized }

@@ -3,8 +3,7 @@ use Rattle.path.specs.Held.{Held, held, rewritten}
 use Rattle.path.specs.declared.point.PathPoint.{PathPoint}
 use Rattle.tessellator.specs.Kinds.{fewest, vertex_count, index_count}
 use Rattle.tessellator.specs.State.{mesh_state}
-use Rattle.tessellator.specs.Strokes.{kind_of}
-use Rattle.tessellator.specs.BrushedStrokes.{inset}
+use Rattle.tessellator.specs.Strokes.{kind_of, inset}
 use Rattle.tessellator.specs.declared.kind.Kind.{Kind}
 use Rattle.tessellator.specs.declared.stroke.Style.TheVariants.{Hard}
 use Rattle.tessellator.proofs.Hardly.{inner_fits, hard_counted, hard_drawn}
