@@ -1,5 +1,5 @@
 -- What every mesh has that a run of calls has made: its figures' vertices and triangles, one figure after the other.
-use Rattle.std.proofs.Common.{◌≡◌, ℕ, ◌+◌, Bool, true, false, List, [], ◌∷◌, ◌++◌, map, length, Some, None, Option, sym, refl, ap, ◌∙◌, subst, ap₂, append_assoc, add_assoc, arith, length-append}
+use Rattle.std.proofs.Common.{◌≡◌, ℕ, ◌+◌, Bool, true, false, List, [], ◌∷◌, ◌++◌, map, length, Ok, Err, Result, sym, refl, ap, ◌∙◌, subst, ap₂, append_assoc, add_assoc, arith, length-append}
 use mathlib.Core.List.{map-append}
 use Rattle.std.specs.List.{flat_map}
 use Rattle.std.proofs.lemmas.List.{append-nil}
@@ -10,7 +10,7 @@ use Rattle.path.specs.declared.point.PathPoint.{PathPoint}
 use Rattle.ecolor.specs.Colors.{is_transparent}
 use Rattle.ecolor.specs.declared.color.Color32.{Color32}
 use Rattle.ecolor.specs.declared.vertex.TextureId.{TextureId}
-use Rattle.tessellator.specs.Outcome.{Figure, Outcome, triangles_of, outcome, settled, textured_outcome, textured_settled, refusal_of, size_of, Joining, joining, joined_as}
+use Rattle.tessellator.specs.Outcome.{Figure, Outcome, triangles_of, outcome, settled, textured_outcome, textured_settled, reserved, size_of, Joining, joining, joined_as}
 use Rattle.tessellator.specs.State as State
 use Rattle.tessellator.specs.State.{MeshState, with_vertices, with_triangles, with_texture}
 use Rattle.tessellator.specs.Triangles.{Triangle, tri, flat, triples, raise, raised}
@@ -88,19 +88,19 @@ laid_changed (accepted size) m m' figures figure look p h (v, i) =
     (refl, p, tt)
 laid_changed (refused number values) m m' figures figure look p h e = laid_same m m' figures e h
 
-settled_leaves : (why : Option FigureFault) (figure : Figure) (p : Held PathPoint) (m : MeshState) → Leaves figure m (settled why figure p m)
+settled_leaves : (why : Result (Unit {0}) FigureFault) (figure : Figure) (p : Held PathPoint) (m : MeshState) → Leaves figure m (settled why figure p m)
 unfolding with_vertices with_triangles
-settled_leaves None figure p m = (refl, refl)
-settled_leaves (Some fault) figure p m = refl
+settled_leaves (Ok t) figure p m = (refl, refl)
+settled_leaves (Err fault) figure p m = refl
 
 outcome_leaves : (allowed : Bool) (figure : Figure) (p : Held PathPoint) (m : MeshState) → Leaves figure m (outcome allowed figure p m)
-outcome_leaves true figure p m = settled_leaves (refusal_of (size_of figure) m) figure p m
+outcome_leaves true figure p m = settled_leaves (reserved (size_of figure) m) figure p m
 outcome_leaves false figure p m = refl
 
-textured_settled_lem : (why : Option FigureFault) (texture : TextureId) (figure : Figure) (p : Held PathPoint) (m : MeshState) → Leaves figure m (textured_settled why texture figure p m)
+textured_settled_lem : (why : Result (Unit {0}) FigureFault) (texture : TextureId) (figure : Figure) (p : Held PathPoint) (m : MeshState) → Leaves figure m (textured_settled why texture figure p m)
 unfolding with_vertices with_triangles with_texture
-textured_settled_lem None texture figure p m = (refl, refl)
-textured_settled_lem (Some fault) texture figure p m = refl
+textured_settled_lem (Ok t) texture figure p m = (refl, refl)
+textured_settled_lem (Err fault) texture figure p m = refl
 
 -- nothing is drawn of a transparent fill
 abbrev Empty : Figure → Type 0
@@ -160,10 +160,10 @@ laid_joined m other figures others h k =
     (ap (λ l. m.indices ++ l) (ap (map (λ i. c + i)) k.indices ∙ flat_raised c (flat_map drawn others) ∙ ap flat (sym (drawn_shifted c others))))
     (subst (λ x. InOrder x (map (shifted c) others)) from (order_shifted c 0 others k.order))
 
-laid_unless : (why : Option FigureFault) (m other : MeshState) (figures others : List Placed) → Laid m figures → Laid other others →
+laid_unless : (why : Result (Unit {0}) FigureFault) (m other : MeshState) (figures others : List Placed) → Laid m figures → Laid other others →
     Laid (joined_as why (State.joined other m) m).mesh (figures ++ copied (joined_as why (State.joined other m) m).answer m others)
-laid_unless None m other figures others h k = laid_joined m other figures others h k
-laid_unless (Some fault) m other figures others h k = laid_same m m figures refl h
+laid_unless (Ok t) m other figures others h k = laid_joined m other figures others h k
+laid_unless (Err fault) m other figures others h k = laid_same m m figures refl h
 
 pub laid_append : (answer : Answer (Unit {0})) (m m' other : MeshState) (figures others : List Placed) → Laid m figures → Laid other others →
     record { answer = answer; mesh = m' } ≡ joining other m → Laid m' (figures ++ copied answer m others)

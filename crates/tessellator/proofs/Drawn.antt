@@ -1,12 +1,12 @@
 -- What a draw leaves, from the figure that it stands for.
-use Rattle.std.proofs.Common.{◌≡◌, ℕ, ◌≤◌, Bool, true, false, cond, ◌||◌, eqb, leb, List, [], length, Some, None, Ok, Err, Option, sym, refl, ap, ◌∙◌, subst, arith}
+use Rattle.std.proofs.Common.{◌≡◌, ℕ, ◌≤◌, Bool, true, false, cond, ◌||◌, eqb, leb, List, [], length, Ok, Err, Result, sym, refl, ap, ◌∙◌, subst, arith}
 use Rattle.std.proofs.lemmas.Bool.{cond-true, leb-true}
 use Rattle.emath.specs.Answers.{Answer, accepted}
 use Rattle.path.specs.Held.{Held, rewritten}
 use Rattle.path.specs.declared.point.PathPoint.{PathPoint}
 use Rattle.ecolor.specs.Vertices.{is_default}
 use Rattle.tessellator.specs.Faults.{told}
-use Rattle.tessellator.specs.Outcome.{Figure, Drawn, Fits, Outcome, Grows, Sized, nothing, outcome, refusal_of, settled, size_of, sizing, space_refusal}
+use Rattle.tessellator.specs.Outcome.{Figure, Drawn, Fits, Outcome, Grows, Sized, nothing, outcome, reserved, settled, size_of, sizing, space_reserved}
 use Rattle.tessellator.specs.State.{MeshState, with_vertices, vertex_room, index_room}
 use Rattle.tessellator.specs.declared.fault.Appended.{Appended}
 use Rattle.tessellator.specs.declared.fault.FigureFault.{FigureFault}
@@ -50,17 +50,17 @@ stopped true figure p m fault e = absurd (let z : ◌≡◌ {A = ℕ} 0 1 = cc i
 stopped false figure p m fault e = ap (λ a. record { answer = a; path = p; mesh = m }) e
 
 module _ (size : Appended) (m : MeshState) where
-  space_by : (vertices indices : Bool) → ◌≡◌ {A = Option FigureFault} None (cond vertices (cond indices None (Some NoIndexSpace)) (Some NoVertexSpace)) → (vertices ≡ true) × (indices ≡ true)
+  space_by : (vertices indices : Bool) → ◌≡◌ {A = Result (Unit {0}) FigureFault} (Ok tt) (cond vertices (cond indices (Ok tt) (Err NoIndexSpace)) (Err NoVertexSpace)) → (vertices ≡ true) × (indices ≡ true)
   space_by true true e = (refl, refl)
   space_by true false e = absurd (let z : ◌≡◌ {A = ℕ} 0 1 = cc in omega arith)
   space_by false indices e = absurd (let z : ◌≡◌ {A = ℕ} 0 1 = cc in omega arith)
 
-  space_within : (texture : Bool) → None ≡ cond texture (space_refusal size m) (Some OtherTexture) → None ≡ space_refusal size m
+  space_within : (texture : Bool) → Ok tt ≡ cond texture (space_reserved size m) (Err OtherTexture) → Ok tt ≡ space_reserved size m
   space_within true e = e
   space_within false e = absurd (let z : ◌≡◌ {A = ℕ} 0 1 = cc in omega arith)
 
   -- where a mesh refuses nothing, it has the space
-  pub space : (texture : Bool) → None ≡ cond texture (space_refusal size m) (Some OtherTexture) → (size.vertices ≤ vertex_room m) × (size.indices ≤ index_room m)
+  pub space : (texture : Bool) → Ok tt ≡ cond texture (space_reserved size m) (Err OtherTexture) → (size.vertices ≤ vertex_room m) × (size.indices ≤ index_room m)
   space texture e =
       let b = space_by (leb size.vertices (vertex_room m)) (leb size.indices (index_room m)) (space_within texture e) in
       (leb-true _ _ b.0, leb-true _ _ b.1)
@@ -70,21 +70,21 @@ module _ (allowed : Bool) (figure : Figure) (p : Held PathPoint) (m : MeshState)
   limits_kept fault e = kept allowed figure (told (Err fault)) p p m m same (stopped allowed figure p m fault e)
 
   module _ (size : Appended) (passes : accepted size ≡ sizing allowed figure) where
-    pub refusal_kept : (fault : FigureFault) → Some fault ≡ refusal_of size m → Kept allowed figure (told (Err fault)) p m p m
+    pub refusal_kept : (fault : FigureFault) → Err fault ≡ reserved size m → Kept allowed figure (told (Err fault)) p m p m
     refusal_kept fault why =
         let pass = let_pass allowed figure size passes in
         kept allowed figure (told (Err fault)) p p m m same
-        (ap (λ r. settled r figure p m) (why ∙ ap (λ s. refusal_of s m) pass.1) ∙ sym (cond-true _ _ _ pass.0))
+        (ap (λ r. settled r figure p m) (why ∙ ap (λ s. reserved s m) pass.1) ∙ sym (cond-true _ _ _ pass.0))
 
-    pub space_fits : None ≡ refusal_of size m → Fits figure m
+    pub space_fits : Ok tt ≡ reserved size m → Fits figure m
     space_fits why =
         let pass = let_pass allowed figure size passes in
         let s = space size m (eqb size.vertices 0 || is_default m.texture) why in
         record { vertices = omega (arith, s.0, ap (λ k. k.vertices) pass.1); indices = omega (arith, s.1, ap (λ k. k.indices) pass.1) }
 
-    pub drawn_kept : (p' : Held PathPoint) (m' : MeshState) → None ≡ refusal_of size m → Drawn figure p m p' m' → Kept allowed figure (told (Ok size)) p m p' m'
+    pub drawn_kept : (p' : Held PathPoint) (m' : MeshState) → Ok tt ≡ reserved size m → Drawn figure p m p' m' → Kept allowed figure (told (Ok size)) p m p' m'
     drawn_kept p' m' why d =
         let pass = let_pass allowed figure size passes in
         kept allowed figure (told (Ok size)) p p' m m' same
         ((λ i. record { answer = accepted (pass.1 i); path = d.path i; mesh = d.mesh i })
-        ∙ ap (λ r. settled r figure p m) (why ∙ ap (λ s. refusal_of s m) pass.1) ∙ sym (cond-true _ _ _ pass.0))
+        ∙ ap (λ r. settled r figure p m) (why ∙ ap (λ s. reserved s m) pass.1) ∙ sym (cond-true _ _ _ pass.0))

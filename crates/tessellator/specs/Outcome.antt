@@ -1,5 +1,5 @@
 -- What any draw leaves, from the figure that it stands for.
-use Rattle.std.specs.Prelude.{◌≡◌, ℕ, ◌+◌, ◌*◌, ◌≤◌, Bool, true, if◌then◌else◌, ◌&&◌, ◌||◌, List, [], ◌∷◌, length, take, drop, Some, None, Ok, Err, Option, Result, ◌==◌, nat_le, nat_lt}
+use Rattle.std.specs.Prelude.{◌≡◌, ℕ, ◌+◌, ◌*◌, ◌≤◌, Bool, true, if◌then◌else◌, ◌&&◌, ◌||◌, List, [], ◌∷◌, length, take, drop, Ok, Err, Result, ◌==◌, nat_le, nat_lt}
 use Rattle.emath.specs.Answers as Answers
 use Rattle.emath.specs.Answers.{Answer}
 use Rattle.emath.specs.Limits.{is_place}
@@ -68,18 +68,14 @@ pub record Drawn (figure : Figure) (p : Held PathPoint) (m : MeshState) (p' : He
 abbrev pub drawn : Figure → Held PathPoint → MeshState → Outcome
 drawn figure path mesh = record { answer = told (Ok (size_of figure)); path = path_after figure path; mesh = mesh_after figure mesh }
 
--- why a mesh cannot take so many vertices and indices
-abbrev pub refusal_of : Appended → MeshState → Option FigureFault
-refusal_of size mesh =
-    if size.vertices == 0 || is_default mesh.texture
-    then (if nat_le size.vertices (vertex_room mesh)
-    then (if nat_le size.indices (index_room mesh) then None else Some NoIndexSpace)
-    else Some NoVertexSpace)
-    else Some OtherTexture
+-- whether a mesh has space for so many vertices and indices
+abbrev pub space_reserved : Appended → MeshState → Result (Unit {0}) FigureFault
+space_reserved size mesh =
+    if nat_le size.vertices (vertex_room mesh) then (if nat_le size.indices (index_room mesh) then Ok tt else Err NoIndexSpace) else Err NoVertexSpace
 
--- the same of space alone
-abbrev pub space_refusal : Appended → MeshState → Option FigureFault
-space_refusal size mesh = if nat_le size.vertices (vertex_room mesh) then (if nat_le size.indices (index_room mesh) then None else Some NoIndexSpace) else Some NoVertexSpace
+-- whether it can take them without a texture
+abbrev pub reserved : Appended → MeshState → Result (Unit {0}) FigureFault
+reserved size mesh = if size.vertices == 0 || is_default mesh.texture then space_reserved size mesh else Err OtherTexture
 
 -- there is space for a figure of this kind and of n points
 pub record KindFits (kind : Kind) (n : ℕ) (mesh : MeshState) : Type 0 where
@@ -90,13 +86,13 @@ pub record Fits (figure : Figure) (mesh : MeshState) : Type 0 where
   pub vertices : length figure.vertices ≤ vertex_room mesh
   pub indices : 3 * length (triangles_of figure) ≤ index_room mesh
 
-abbrev pub settled : Option FigureFault → Figure → Held PathPoint → MeshState → Outcome
-settled None figure path mesh = drawn figure path mesh
-settled (Some fault) figure path mesh = refused fault path mesh
+abbrev pub settled : Result (Unit {0}) FigureFault → Figure → Held PathPoint → MeshState → Outcome
+settled (Ok t) figure path mesh = drawn figure path mesh
+settled (Err fault) figure path mesh = refused fault path mesh
 
 -- `allowed` says that the arguments and the places of the path are within their limits
 abbrev pub outcome : Bool → Figure → Held PathPoint → MeshState → Outcome
-outcome allowed figure path mesh = if allowed then settled (refusal_of (size_of figure) mesh) figure path mesh else refused OutOfLimits path mesh
+outcome allowed figure path mesh = if allowed then settled (reserved (size_of figure) mesh) figure path mesh else refused OutOfLimits path mesh
 
 -- what sizing answers
 abbrev pub sizing : Bool → Figure → Answer Appended
@@ -104,23 +100,22 @@ sizing allowed figure = if allowed then told (Ok (size_of figure)) else told (Er
 
 -- ---- textured fills
 
--- Why a mesh with a texture of its own, unless it is empty, cannot take so many vertices and indices.
-abbrev pub refusal_under : TextureId → Appended → MeshState → Option FigureFault
-refusal_under texture size mesh = if is_empty mesh || same_texture mesh.texture texture then space_refusal size mesh else Some OtherTexture
+-- whether a mesh can take so many vertices and indices with a texture: unless it is empty, it must have that texture itself
+abbrev pub reserved_under : TextureId → Appended → MeshState → Result (Unit {0}) FigureFault
+reserved_under texture size mesh = if is_empty mesh || same_texture mesh.texture texture then space_reserved size mesh else Err OtherTexture
 
 -- an empty mesh takes the texture
-abbrev pub textured_settled : Option FigureFault → TextureId → Figure → Held PathPoint → MeshState → Outcome
-textured_settled None texture figure path mesh =
+abbrev pub textured_settled : Result (Unit {0}) FigureFault → TextureId → Figure → Held PathPoint → MeshState → Outcome
+textured_settled (Ok t) texture figure path mesh =
     record { answer = told (Ok (size_of figure)); path = path_after figure path; mesh = mesh_after figure (with_texture mesh texture) }
-textured_settled (Some fault) texture figure path mesh = refused fault path mesh
+textured_settled (Err fault) texture figure path mesh = refused fault path mesh
 
 -- Nothing at all is done of a transparent fill, and one of fewer than three points is refused.
 abbrev pub textured_outcome : Bool → Color32 → TextureId → Figure → Held PathPoint → MeshState → Outcome
 textured_outcome allowed color texture figure path mesh =
-    if allowed
-    then (if is_transparent color
-    then record { answer = told (Ok (size_of (nothing path.used))); path = path; mesh = mesh }
-    else textured_settled (if nat_lt (length path.used) 3 then Some TooFewPoints else refusal_under texture (size_of figure) mesh) texture figure path mesh)
+    if allowed then
+    (if is_transparent color then record { answer = told (Ok (size_of (nothing path.used))); path = path; mesh = mesh }
+    else textured_settled (if nat_lt (length path.used) 3 then Err TooFewPoints else reserved_under texture (size_of figure) mesh) texture figure path mesh)
     else refused OutOfLimits path mesh
 
 -- ---- appending another mesh
@@ -130,13 +125,13 @@ pub record Joining : Type 0 where
   pub mesh : MeshState
 
 -- it becomes what it would be, unless it refuses
-abbrev pub joined_as : Option FigureFault → MeshState → MeshState → Joining
-joined_as None after before = record { answer = told (Ok tt); mesh = after }
-joined_as (Some fault) after before = record { answer = told (Err fault); mesh = before }
+abbrev pub joined_as : Result (Unit {0}) FigureFault → MeshState → MeshState → Joining
+joined_as (Ok t) after before = record { answer = told (Ok tt); mesh = after }
+joined_as (Err fault) after before = record { answer = told (Err fault); mesh = before }
 
 abbrev pub joining : MeshState → MeshState → Joining
 joining other mesh =
-    joined_as (refusal_under other.texture (record { vertices = length other.vertices; indices = length other.indices }) mesh) (joined other mesh) mesh
+    joined_as (reserved_under other.texture (record { vertices = length other.vertices; indices = length other.indices }) mesh) (joined other mesh) mesh
 
 abbrev pub joined_after : Result (Unit {0}) FigureFault → Mesh → Joining
 joined_after r mesh = record { answer = told r; mesh = mesh_state mesh }
@@ -145,16 +140,16 @@ joined_after r mesh = record { answer = told r; mesh = mesh_state mesh }
 
 abbrev pub one_vertex : Pos2 → Color32 → MeshState → Joining
 one_vertex pos color mesh =
-    if is_place pos
-    then joined_as (refusal_of (record { vertices = 1; indices = 0 }) mesh) (with_vertices mesh (untextured pos color ∷ [])) mesh
+    if is_place pos then joined_as (reserved (record { vertices = 1; indices = 0 }) mesh) (with_vertices mesh (untextured pos color ∷ [])) mesh
     else record { answer = told (Err OutOfLimits); mesh = mesh }
 
 -- an index that names no vertex is refused before the space is asked for
 abbrev pub one_triangle : ℕ → ℕ → ℕ → MeshState → Joining
 one_triangle a b c mesh =
     let n = length mesh.vertices in
-    if nat_lt a n && (nat_lt b n && nat_lt c n)
-    then (if nat_le 3 (index_room mesh) then record { answer = told (Ok tt); mesh = with_triangles 0 mesh (tri a b c ∷ []) } else record { answer = told (Err NoIndexSpace); mesh = mesh })
+    if nat_lt a n && (nat_lt b n && nat_lt c n) then
+    (if nat_le 3 (index_room mesh) then record { answer = told (Ok tt); mesh = with_triangles 0 mesh (tri a b c ∷ []) }
+    else record { answer = told (Err NoIndexSpace); mesh = mesh })
     else record { answer = told (Err NoVertex); mesh = mesh }
 
 -- ---- what every draw keeps to

@@ -122,9 +122,7 @@ pub fn fill(
     ensures sized { Sized (told result) (sizing (fills.fill_allowed feathering (held path.old).used) (fills.fill_figure feathering color (held path.old).used)) (mesh_state out.old) }
 {
     let size = size_of_fill(path, feathering, color)?;
-    if let Some(fault) = out.refusal(size) {
-        return Err(fault);
-    }
+    out.reserve(size)?;
     draw_fill(path, feathering, color, &Plain, out);
     Ok(size)
 }

@@ -46,9 +46,7 @@ pub fn fill_with_uv<U: TextureRule>(
     if path.as_slice().len() < 3 {
         return Err(FigureFault::TooFewPoints);
     }
-    if let Some(fault) = out.refusal_under(texture_id, size) {
-        return Err(fault);
-    }
+    out.reserve_under(texture_id, size)?;
     out.set_texture(texture_id);
     draw_fill(
         path,

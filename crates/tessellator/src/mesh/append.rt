@@ -20,9 +20,7 @@ impl<'a> Mesh<'a> {
             vertices: other.vertex_count,
             indices: other.index_count,
         };
-        if let Some(fault) = self.refusal_under(other.texture_id, size) {
-            return Err(fault);
-        }
+        self.reserve_under(other.texture_id, size)?;
         let base = self.next_vertex();
         self.copy_vertices(other.vertices());
         self.copy_triangles(base, other.indices());
@@ -41,9 +39,7 @@ impl<'a> Mesh<'a> {
             vertices: 1,
             indices: 0,
         };
-        if let Some(fault) = self.refusal(size) {
-            return Err(fault);
-        }
+        self.reserve(size)?;
         self.add_vertex(Vertex::untextured(pos, color));
         Ok(())
     }

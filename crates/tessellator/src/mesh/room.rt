@@ -1,6 +1,6 @@
 //! Whether a figure has space in a mesh.
 ghost use Rattle.std.specs.Prelude.{◌≡◌, length};
-ghost use Rattle.tessellator.specs.Outcome.{refusal_of, refusal_under, space_refusal};
+ghost use Rattle.tessellator.specs.Outcome.{reserved, reserved_under, space_reserved};
 ghost use Rattle.tessellator.specs.State.{mesh_state, vertex_room, index_room, with_texture};
 
 use super::Mesh;
@@ -31,43 +31,46 @@ impl<'a> Mesh<'a> {
         self.vertex_count as u32
     }
 
-    fn refusal_of_space(&self, size: Appended) -> Option<FigureFault>
-        ensures { result ≡ space_refusal size (mesh_state self.now) }
+    /// Refuses what there is no space for.
+    fn reserve_space(&self, size: Appended) -> Result<(), FigureFault>
+        ensures { result ≡ space_reserved size (mesh_state self.now) }
     {
         if size.vertices > self.vertex_room() {
-            Some(FigureFault::NoVertexSpace)
-        } else if size.indices > self.index_room() {
-            Some(FigureFault::NoIndexSpace)
-        } else {
-            None
+            return Err(FigureFault::NoVertexSpace);
         }
+        if size.indices > self.index_room() {
+            return Err(FigureFault::NoIndexSpace);
+        }
+        Ok(())
     }
 
-    /// Why so much cannot be appended with a texture, or nothing if it can.
-    pub(crate) fn refusal_under(&self, texture_id: TextureId, size: Appended) -> Option<FigureFault>
-        ensures { result ≡ refusal_under texture_id size (mesh_state self.now) }
+    /// Refuses what cannot be appended without a texture.
+    pub(crate) fn reserve(&self, size: Appended) -> Result<(), FigureFault>
+        ensures { result ≡ reserved size (mesh_state self.now) }
+    {
+        if size.vertices != 0 && !self.texture_id.is_default() {
+            return Err(FigureFault::OtherTexture);
+        }
+        self.reserve_space(size)
+    }
+
+    /// Refuses what cannot be appended with a texture.
+    pub(crate) fn reserve_under(
+        &self,
+        texture_id: TextureId,
+        size: Appended,
+    ) -> Result<(), FigureFault>
+        ensures { result ≡ reserved_under texture_id size (mesh_state self.now) }
     {
         if self.vertex_count != 0 && !self.texture_id.is_same(texture_id) {
-            Some(FigureFault::OtherTexture)
-        } else {
-            self.refusal_of_space(size)
+            return Err(FigureFault::OtherTexture);
         }
+        self.reserve_space(size)
     }
 
     pub(crate) fn set_texture(&mut self, texture_id: TextureId)
         ensures { mesh_state self.new ≡ with_texture (mesh_state self.old) texture_id }
     {
         self.texture_id = texture_id;
-    }
-
-    /// Why so much cannot be appended without a texture, or nothing if it can.
-    pub(crate) fn refusal(&self, size: Appended) -> Option<FigureFault>
-        ensures { result ≡ refusal_of size (mesh_state self.now) }
-    {
-        if size.vertices != 0 && !self.texture_id.is_default() {
-            Some(FigureFault::OtherTexture)
-        } else {
-            self.refusal_of_space(size)
-        }
     }
 }

@@ -114,9 +114,7 @@ pub(super) fn stroke_along<C: ColorRule>(
     ensures sized { Sized (told result) (strokes.stroke_sizing (strokes.pen_of C.colour C.plain feathering course stroke.now) (held path.old)) (mesh_state out.old) }
 {
     let size = size_along(path, feathering, course, stroke)?;
-    if let Some(fault) = out.refusal(size) {
-        return Err(fault);
-    }
+    out.reserve(size)?;
     draw_stroke(path, feathering, course, stroke, out);
     Ok(size)
 }

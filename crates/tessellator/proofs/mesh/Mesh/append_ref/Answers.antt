@@ -1,7 +1,7 @@
-use Rattle.std.proofs.Common.{◌||◌, length, get_or, ap, ◌∙◌, arith, length-take}
+use Rattle.std.proofs.Common.{◌||◌, length, get_or, sym, ap, ◌∙◌, arith, length-take}
 use Rattle.emath.specs.Answers.{accepted}
 use Rattle.ecolor.specs.Vertices.{same_texture}
-use Rattle.tessellator.specs.Outcome.{joined_as, refusal_under}
+use Rattle.tessellator.specs.Outcome.{joined_as, reserved_under}
 use Rattle.tessellator.specs.State.{mesh_state, is_empty, joined, with_vertices, with_triangles}
 use Rattle.tessellator.specs.Triangles.{triples}
 use Rattle.tessellator.proofs.Appending.{threes, names_vertices, size_is, joined_is}
@@ -13,7 +13,7 @@ pub copy_triangles-requires : goal.copy_triangles-requires
 copy_triangles-requires c =
     let other = c.args.other.now in
     let m = mesh_state c.args.self.now in
-    let s = space _ m (is_empty m || same_texture m.texture other.texture_id) c.in_default.ensures in
+    let s = space _ m (is_empty m || same_texture m.texture other.texture_id) (sym c.in_ok-reserve_under.was ∙ c.reserve_under.ensures) in
     let many = ap length c.indices.ensures in
     let kept = index_room_kept _ _ _ c.copy_vertices.ensures in
     let more = vertices_added _ _ _ c.copy_vertices.ensures in
@@ -27,4 +27,4 @@ returns c =
     let triangles = c.copy_triangles.ensures ∙ ap (λ is. with_triangles c.next_vertex-base.result (mesh_state c.copy_vertices.new.self) (triples is)) c.indices.ensures in
     let all = joined_is (mesh_state other) m _ _ _ c.next_vertex-base.result (threes other) c.next_vertex-base.ensures vertices triangles c.set_texture.ensures in
     ap (λ s. record { answer = accepted tt; mesh = s }) all
-    ∙ ap (λ why. joined_as why (joined (mesh_state other) m) m) (c.in_default.ensures ∙ ap (λ s. refusal_under other.texture_id s m) (size_is other))
+    ∙ ap (λ why. joined_as why (joined (mesh_state other) m) m) (sym c.in_ok-reserve_under.was ∙ c.reserve_under.ensures ∙ ap (λ s. reserved_under other.texture_id s m) (size_is other))
