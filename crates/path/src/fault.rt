@@ -2,7 +2,7 @@
 ghost use Rattle.std.specs.Prelude.{◌≡◌};
 ghost use Rattle.path.specs.Faults.{number_of};
 
-/// By the numbers of the refusals.
+/// With the numbers of the refusals.
 #[derive(Clone, Copy)]
 pub enum PathFault {
     /// A line has fewer than two points.

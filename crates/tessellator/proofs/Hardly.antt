@@ -22,7 +22,7 @@ use Rattle.tessellator.proofs.Stroked.{length-inset, hard_count}
 
 -- the rows over `outer`, and then the fill over `inner`
 module _ (brush : Paint → Pos2 → Vertex) (feathering width : Float) (course : Course) (points outer inner : List PathPoint) (rows : List Row) (fill : Color32) (m m₁ : MeshState)
-    (is-outer : outer ≡ points) (is-rows : rows ≡ hard_rows width) (is-fill : fill ≡ fill_of course) (is-inner : inner ≡ inset width fill points)
+    (is-outer : outer ≡ points) (is-rows : rows ≡ hard_rows width) (is-fill : fill ≡ fill_of course) (is-inner : inner ≡ inset width (fill_of course) points)
     (one : m₁ ≡ with_vertices m (row_vertices brush rows outer)) (fits : KindFits (kind_of Hard course (length points)) (length points) m) where
   within : List PathPoint
   within = inset width (fill_of course) points
@@ -39,7 +39,7 @@ module _ (brush : Paint → Pos2 → Vertex) (feathering width : Float) (course 
 
   is_within : inner ≡ within
   unfolding within
-  is_within = is-inner ∙ ap (λ f. inset width f points) is-fill
+  is_within = is-inner
 
   is_filled : (fill_figure plane.zero fill inner).vertices ≡ (fill_figure plane.zero (fill_of course) within).vertices
   is_filled = ap (λ f. (fill_figure plane.zero f inner).vertices) is-fill ∙ ap (λ ps. (fill_figure plane.zero (fill_of course) ps).vertices) is_within

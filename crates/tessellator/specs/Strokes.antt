@@ -32,6 +32,7 @@ use Rattle.tessellator.specs.declared.stroke.Course.{Course}
 use Rattle.tessellator.specs.declared.stroke.Course.TheVariants.{Unjoined, Around}
 use Rattle.tessellator.specs.declared.stroke.PathStroke.{PathStroke}
 use Rattle.tessellator.specs.declared.stroke.PathType.{PathType}
+use Rattle.tessellator.specs.declared.stroke.pen.Pen as stroke_pen
 use Rattle.tessellator.specs.declared.stroke.PathType.TheVariants.{Open, Closed}
 use Rattle.tessellator.specs.declared.stroke.StrokeKind.{StrokeKind}
 use Rattle.tessellator.specs.declared.stroke.StrokeKind.TheVariants.{Inside, Middle, Outside}
@@ -117,6 +118,10 @@ pen_of colour plain feathering course stroke = record {
   colour = colour stroke.color;
   plain = plain stroke.color;
 }
+
+-- what a pen of the code draws with
+abbrev pub meaning : {C : Type 0} → (C → Rect → Pos2 → Color32) → (C → Option Color32) → stroke_pen.Pen C → Pen
+meaning colour plain p = pen_of colour plain p.feathering p.course p.stroke.now
 
 -- `stroke` runs along an open line, or along a loop without a fill
 abbrev pub course_of : PathType → Course

@@ -1,5 +1,6 @@
 //! Drawing a figure over points that lie where its rows are counted from.
 ghost use Rattle.std.specs.Prelude.{◌≡◌, ◌*◌, ◌≤◌, length};
+ghost use Rattle.path.specs.Held.{held};
 ghost use Rattle.tessellator.specs.Kinds.{fewest, index_count, rows, vertex_count};
 ghost use Rattle.tessellator.specs.Outcome.{KindFits, mesh_after, shaped};
 ghost use Rattle.tessellator.specs.Rows.{row_vertices};
@@ -11,7 +12,7 @@ use crate::kind::Kind;
 use crate::mesh::Mesh;
 use crate::row::Row;
 use crate::stroke::Style;
-use path::point::PathPoint;
+use path::path::Path;
 
 impl Style {
     fn row_count(self) -> usize
@@ -76,19 +77,13 @@ fn index_count(kind: Kind, points: usize) -> usize
 }
 
 /// The vertices of the rows at each point, and the triangles of the kind among them.
-pub(crate) fn draw_rows<B: Brush>(
-    points: &[PathPoint],
-    rows: &[Row],
-    brush: &B,
-    kind: Kind,
-    out: &mut Mesh,
-)
-    requires few { length points.now ≤ 1048576 }
-    requires enough { fewest kind ≤ length points.now }
-    requires all_rows { length points.now * length rows.now ≡ vertex_count kind (length points.now) }
-    requires fits { KindFits kind (length points.now) (mesh_state out.old) }
-    ensures { mesh_state out.new ≡ mesh_after (shaped kind points.now (row_vertices (B.paints brush.now) rows.now points.now)) (mesh_state out.old) }
+pub(crate) fn draw_rows<B: Brush>(path: &Path, rows: &[Row], brush: &B, kind: Kind, out: &mut Mesh)
+    requires enough { fewest kind ≤ length (held path.now).used }
+    requires all_rows { length (held path.now).used * length rows.now ≡ vertex_count kind (length (held path.now).used) }
+    requires fits { KindFits kind (length (held path.now).used) (mesh_state out.old) }
+    ensures { mesh_state out.new ≡ mesh_after (shaped kind (held path.now).used (row_vertices (B.paints brush.now) rows.now (held path.now).used)) (mesh_state out.old) }
 {
+    let points = path.as_slice();
     let base = out.next_vertex();
     out.add_rows(points, rows, brush);
     out.add_triangles(base, kind, points.len() as u32);

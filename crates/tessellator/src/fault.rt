@@ -9,21 +9,21 @@ pub struct Appended {
     pub indices: usize,
 }
 
-/// Why nothing is drawn.
+/// Why nothing is drawn, by the numbers of the refusals.
 #[derive(Clone, Copy)]
 pub enum FigureFault {
-    /// A width, a feathering or a place is not finite or outside its limits.
-    OutOfLimits,
     /// A textured fill has fewer than three points.
-    TooFewPoints,
-    /// Something would be appended, and the mesh has another texture.
-    OtherTexture,
+    TooFewPoints = 1,
+    /// A width, a feathering or a place is not finite or outside its limits.
+    OutOfLimits = 2,
     /// There is no space for the vertices.
-    NoVertexSpace,
+    NoVertexSpace = 4,
     /// There is no space for the indices.
-    NoIndexSpace,
+    NoIndexSpace = 5,
+    /// Something would be appended, and the mesh has another texture.
+    OtherTexture = 6,
     /// An index of a single triangle names no vertex.
-    NoVertex,
+    NoVertex = 7,
 }
 
 impl FigureFault {
@@ -31,13 +31,6 @@ impl FigureFault {
     pub fn number(self) -> u8
         ensures { result ≡ number_of self }
     {
-        match self {
-            FigureFault::TooFewPoints => 1,
-            FigureFault::OutOfLimits => 2,
-            FigureFault::NoVertexSpace => 4,
-            FigureFault::NoIndexSpace => 5,
-            FigureFault::OtherTexture => 6,
-            FigureFault::NoVertex => 7,
-        }
+        self as u8
     }
 }

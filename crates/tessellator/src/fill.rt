@@ -81,10 +81,10 @@ pub(crate) fn draw_fill<B: Brush>(
     if 0.0 < feathering {
         path.turn_clockwise();
         let rows = feathered_fill_rows(feathering, color);
-        draw_rows(path.as_slice(), &rows, brush, Kind::FeatheredFill, out);
+        draw_rows(path, &rows, brush, Kind::FeatheredFill, out);
     } else {
         let rows = hard_fill_rows(color);
-        draw_rows(path.as_slice(), &rows, brush, Kind::HardFill, out);
+        draw_rows(path, &rows, brush, Kind::HardFill, out);
     }
 }
 

@@ -5,7 +5,8 @@ pub mod calls;
 mod draw;
 mod moves;
 pub mod open;
-mod rows;
+mod outline;
+mod pen;
 
 /// Where a stroke lies beside its path.
 #[derive(Clone, Copy)]

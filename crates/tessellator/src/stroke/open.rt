@@ -7,7 +7,7 @@ ghost use Rattle.tessellator.specs.Outcome.{Grows, Sized, after};
 ghost use Rattle.tessellator.specs.State.{mesh_state};
 ghost use Rattle.tessellator.specs.declared.stroke.Course.TheVariants.{Unjoined};
 
-use super::calls::{size_along, stroke_along};
+use super::pen::Pen;
 use super::{Course, PathStroke};
 use crate::fault::{Appended, FigureFault};
 use crate::mesh::Mesh;
@@ -22,7 +22,7 @@ pub fn size_of_stroke_open<C: ColorRule>(
 ) -> Result<Appended, FigureFault>
     ensures { told result ≡ strokes.stroke_sizing (strokes.pen_of C.colour C.plain feathering Unjoined stroke.now) (held path.now) }
 {
-    size_along(path, feathering, Course::Unjoined, stroke)
+    Pen::new(feathering, Course::Unjoined, stroke).size(path)
 }
 
 /// Strokes the path as an open line, whole or not at all. The path keeps its points where the stroke moved them.
@@ -36,5 +36,5 @@ pub fn stroke_open<C: ColorRule>(
     ensures grows { Grows (told result) (held path.old) (mesh_state out.old) (held path.new) (mesh_state out.new) }
     ensures sized { Sized (told result) (strokes.stroke_sizing (strokes.pen_of C.colour C.plain feathering Unjoined stroke.now) (held path.old)) (mesh_state out.old) }
 {
-    stroke_along(path, feathering, Course::Unjoined, stroke, out)
+    Pen::new(feathering, Course::Unjoined, stroke).draw(path, out)
 }

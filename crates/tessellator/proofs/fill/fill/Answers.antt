@@ -1,8 +1,7 @@
-use Rattle.std.proofs.Common.{Ok, sym, ◌∙◌, rules}
+use Rattle.std.proofs.Common.{sym, ◌∙◌}
 use Rattle.std.proofs.lemmas.Result.{err_from_is_err_and}
 use Rattle.path.specs.Held.{held}
 use Rattle.tessellator.specs.Brushes.{plain}
-use Rattle.tessellator.specs.Faults.{told}
 use Rattle.tessellator.specs.Fills.{fill_allowed, fill_figure}
 use Rattle.tessellator.specs.State.{mesh_state}
 use Rattle.tessellator.proofs.Drawn.{refusal_kept, space_fits, drawn_kept}

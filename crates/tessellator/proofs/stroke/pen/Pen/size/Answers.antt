@@ -2,15 +2,15 @@ use Rattle.std.proofs.Common.{◌≤◌, length, sym, ap, ◌∙◌, subst, arit
 use Rattle.path.specs.Held.{held}
 use Rattle.path.proofs.Growing.{few_used}
 use Rattle.tessellator.specs.Kinds.{fewest}
-use Rattle.tessellator.specs.Strokes.{pen_of, stroke_kind}
+use Rattle.tessellator.specs.Strokes.{meaning, stroke_kind}
 use Rattle.tessellator.specs.declared.kind.Kind.{Kind}
 use Rattle.tessellator.proofs.Shapes.{shape_size}
 use Rattle.tessellator.proofs.Stroked.{stroke_shape}
-use Rattle.tessellator.proofs.stroke.calls.size_along.Goals as goal
+use Rattle.tessellator.proofs.stroke.pen.Pen.size.Goals as goal
 
 pub kind_size-requires : goal.kind_size-requires
 kind_size-requires g c =
-    let pen = pen_of g.C.ColorRule.colour g.C.ColorRule.plain c.args.feathering c.args.course c.args.stroke.now in
+    let pen = meaning g.C.ColorRule.colour g.C.ColorRule.plain c.args.self.now in
     let points = (held c.args.path.now).used in
     let n = length c.as_slice-points.result.now in
     let long = ap length c.as_slice-points.ensures in
@@ -21,6 +21,6 @@ kind_size-requires g c =
 
 pub returns : goal.returns
 returns g c =
-    let pen = pen_of g.C.ColorRule.colour g.C.ColorRule.plain c.args.feathering c.args.course c.args.stroke.now in
+    let pen = meaning g.C.ColorRule.colour g.C.ColorRule.plain c.args.self.now in
     let size = shape_size (stroke_shape pen (held c.args.path.now).used) in
     search rules
