@@ -1,5 +1,7 @@
 -- How many triangles each kind of figure has.
 use Rattle.std.proofs.Common.{◌≡◌, ℕ, ◌+◌, ◌-◌, ◌*◌, ◌≤◌, List, [], ◌∷◌, ◌++◌, length, sym, refl, ap, ◌∙◌, add_assoc, arith, length-append}
+use Rattle.tessellator.specs.Joints.{closed}
+use Rattle.tessellator.specs.declared.mesh.joint.Joint.TheVariants.{Plank, Rows, Skirt}
 use Rattle.tessellator.specs.Kinds.{vertex_count, fan, polygon, plank, planks, skirt, skirts, band, bands, ring, cap, triangles, index_count, fewest}
 use Rattle.tessellator.specs.State.{MeshState, with_triangles, index_room}
 use Rattle.tessellator.specs.Triangles.{Triangle, tri, raised}
@@ -7,7 +9,8 @@ use Rattle.tessellator.specs.declared.kind.Kind.{Kind}
 use Rattle.tessellator.specs.declared.kind.Kind.TheVariants.{Nothing, HardFill, FeatheredFill, Line, Loop, Filled}
 use Rattle.tessellator.specs.declared.stroke.Style.{Style}
 use Rattle.tessellator.specs.declared.stroke.Style.TheVariants.{Hard, Thin, Thick}
-use Rattle.tessellator.proofs.Growth.{length-each, length-band, length-bands, length-raised, one_and_rest, index_room_left, vertices_kept, triangles_step}
+use Rattle.tessellator.proofs.Joints.{length-joints, length-closed}
+use Rattle.tessellator.proofs.Growth.{length-each, length-raised, index_room_left, vertices_kept, triangles_step}
 
 pub length-fan : (R r n : ℕ) → length (fan R r n) ≡ n - 2
 length-fan R r n = length-each (λ i. tri (R * (i + 1) + r) r (R * (i + 2) + r) ∷ []) 1 (λ i. refl) (n - 2) ∙ omega arith
@@ -15,33 +18,21 @@ length-fan R r n = length-each (λ i. tri (R * (i + 1) + r) r (R * (i + 2) + r) 
 pub length-polygon : (n : ℕ) → length (polygon n) ≡ n - 2
 length-polygon n = length-each (λ i. tri 0 (i + 1) (i + 2) ∷ []) 1 (λ i. refl) (n - 2) ∙ omega arith
 
-pub length-planks : (n : ℕ) → length (planks n) ≡ 2 * (n - 1)
-length-planks n = length-each (λ i. plank i (i + 1)) 2 (λ i. refl) (n - 1) ∙ omega arith
-
-pub length-skirts : (n : ℕ) → length (skirts n) ≡ 2 * (n - 1)
-length-skirts n = length-each (λ i. skirt i (i + 1)) 2 (λ i. refl) (n - 1) ∙ omega arith
-
-pub length-ring : (R n : ℕ) → 1 ≤ n → 3 * length (ring R n) ≡ n * (6 * (R - 1))
-length-ring R n h =
-    let first = length-band R (n - 1) 0 in
-    let rest = length-bands R (n - 1) in
-    omega (arith, length-append (band R (n - 1) 0) (bands R (n - 1)), one_and_rest n (6 * (R - 1)) h)
-
 -- three indices to a triangle
 loop_indices : (s : Style) (n : ℕ) → 2 ≤ n → 3 * length (triangles (Loop s) n) ≡ index_count (Loop s) n
-loop_indices Hard n h = omega (arith, length-append (planks n) (plank (n - 1) 0), length-planks n)
-loop_indices Thin n h = omega (arith, length-ring 3 n (omega arith))
-loop_indices Thick n h = omega (arith, length-ring 4 n (omega arith))
+loop_indices Hard n h = omega (arith, length-append (planks n) (plank (n - 1) 0), length-joints Plank n)
+loop_indices Thin n h = omega (arith, length-closed (Rows 3) n (omega arith))
+loop_indices Thick n h = omega (arith, length-closed (Rows 4) n (omega arith))
 
 pub index_count_lem : (kind : Kind) (n : ℕ) → fewest kind ≤ n → 3 * length (triangles kind n) ≡ index_count kind n
 index_count_lem Nothing n h = refl
 index_count_lem HardFill n h = omega (arith, length-polygon n)
 index_count_lem FeatheredFill n h =
-    omega (arith, length-append (fan 2 0 n) (skirt (n - 1) 0 ++ skirts n), length-append (skirt (n - 1) 0) (skirts n), length-fan 2 0 n, length-skirts n)
-index_count_lem (Line Hard) n h = omega (arith, length-planks n)
-index_count_lem (Line Thin) n h = omega (arith, length-bands 3 (n - 1))
+    omega (arith, length-append (fan 2 0 n) (closed Skirt n), length-fan 2 0 n, length-closed Skirt n (omega arith))
+index_count_lem (Line Hard) n h = omega (arith, length-joints Plank n)
+index_count_lem (Line Thin) n h = omega (arith, length-joints (Rows 3) n)
 index_count_lem (Line Thick) n h =
-    omega (arith, length-append (cap 0) (bands 4 (n - 1) ++ cap (n - 1)), length-append (bands 4 (n - 1)) (cap (n - 1)), length-bands 4 (n - 1))
+    omega (arith, length-append (cap 0) (bands 4 (n - 1) ++ cap (n - 1)), length-append (bands 4 (n - 1)) (cap (n - 1)), length-joints (Rows 4) n)
 index_count_lem (Loop s) n h = loop_indices s n h
 index_count_lem (Filled Hard) n h =
     omega (arith, length-append (triangles (Loop Hard) n) (raised (2 * n) (polygon n)), loop_indices Hard n (omega arith), length-raised (2 * n) (polygon n), length-polygon n)

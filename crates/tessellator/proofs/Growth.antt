@@ -2,7 +2,7 @@
 use Rattle.std.proofs.Common.{◌≡◌, ℕ, zero, suc, ◌+◌, ◌-◌, ◌*◌, ◌≤◌, List, [], ◌∷◌, ◌++◌, length, sym, refl, ap, ◌∙◌, append_assoc, suc-mul, zero-mul, add-one, arith, length-append, length-drop}
 use mathlib.Core.List.{map-append}
 use Rattle.std.proofs.lemmas.List.{append-nil, drop-drop}
-use Rattle.tessellator.specs.Kinds.{each, cell, band, bands}
+use Rattle.tessellator.specs.Kinds.{each, cell, band}
 use Rattle.tessellator.specs.State.{MeshState, appended, with_vertices, with_triangles, vertex_room, index_room}
 use Rattle.tessellator.specs.Triangles.{Triangle, raise, raised}
 use Rattle.ecolor.specs.declared.vertex.Vertex.{Vertex}
@@ -82,14 +82,6 @@ module _ (f : ℕ → List Triangle) where
 
 pub length-band : (R i j : ℕ) → 3 * length (band R i j) ≡ 6 * (R - 1)
 length-band R i j = let e = length-each (cell R i j) 2 (λ r. refl) (R - 1) in omega arith
-
-pub length-bands : (R m : ℕ) → 3 * length (bands R m) ≡ m * (6 * (R - 1))
-length-bands R zero = sym (zero-mul (6 * (R - 1)))
-length-bands R (suc m) =
-    let e = length-bands R m in
-    let h = length-band R m (m + 1) in
-    let a = length-append (bands R m) (band R m (m + 1)) in
-    rw suc-mul (omega arith)
 
 pub one_and_rest : (n k : ℕ) → 1 ≤ n → n * k ≡ k + (n - 1) * k
 one_and_rest n k h =

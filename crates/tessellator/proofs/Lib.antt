@@ -5,6 +5,7 @@ pub mod Drawn
 pub mod Growth
 pub mod Hardly
 pub mod Joining
+pub mod Joints
 pub mod Shapes
 pub mod Stroked
 pub mod Textured

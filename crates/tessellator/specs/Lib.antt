@@ -2,6 +2,7 @@ pub mod Boxes
 pub mod Brushes
 pub mod Faults
 pub mod Fills
+pub mod Joints
 pub mod Kinds
 pub mod Outcome
 pub mod Rows

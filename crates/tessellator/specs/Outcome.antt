@@ -7,7 +7,7 @@ use Rattle.emath.specs.declared.plane.Pos2.{Pos2}
 use Rattle.path.specs.Held.{Held, Path, held, rewritten}
 use Rattle.path.specs.declared.point.PathPoint.{PathPoint}
 use Rattle.tessellator.specs.Faults.{told}
-use Rattle.tessellator.specs.Kinds.{triangles, vertex_count, index_count}
+use Rattle.tessellator.specs.Kinds.{triangles, vertex_count, index_count, fewest}
 use Rattle.tessellator.specs.State.{MeshState, mesh_state, is_empty, appended, joined, with_vertices, with_triangles, with_texture, vertex_room, index_room}
 use Rattle.tessellator.specs.Triangles.{Triangle, tri}
 use Rattle.ecolor.specs.Vertices.{is_default, same_texture, untextured}
@@ -81,6 +81,12 @@ reserved size mesh = if size.vertices == 0 || is_default mesh.texture then space
 pub record KindFits (kind : Kind) (n : ℕ) (mesh : MeshState) : Type 0 where
   pub vertices : vertex_count kind n ≤ vertex_room mesh
   pub indices : index_count kind n ≤ index_room mesh
+
+-- of a figure of this kind and of n points, the vertices are there from `base` on, and there is space for its triangles
+pub record TrianglesFit (kind : Kind) (base n : ℕ) (mesh : MeshState) : Type 0 where
+  pub enough : fewest kind ≤ n
+  pub vertices : base + vertex_count kind n ≤ length mesh.vertices
+  pub space : index_count kind n ≤ index_room mesh
 
 pub record Fits (figure : Figure) (mesh : MeshState) : Type 0 where
   pub vertices : length figure.vertices ≤ vertex_room mesh

@@ -6,6 +6,7 @@ use ecolor::vertex::{TextureId, Vertex};
 pub mod append;
 pub mod finish;
 mod grow;
+mod joint;
 mod kinds;
 pub mod read;
 mod room;

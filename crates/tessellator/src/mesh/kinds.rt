@@ -1,19 +1,19 @@
 //! The triangles of each kind of figure, whose first vertex is the mesh's vertex `base`.
-ghost use Rattle.std.specs.Prelude.{◌≡◌, ◌+◌, ◌≤◌, length};
-ghost use Rattle.tessellator.specs.Kinds.{fewest, index_count, triangles, vertex_count};
-ghost use Rattle.tessellator.specs.State.{mesh_state, with_triangles, index_room};
+ghost use Rattle.std.specs.Prelude.{◌≡◌};
+ghost use Rattle.tessellator.specs.Kinds.{triangles};
+ghost use Rattle.tessellator.specs.Outcome.{TrianglesFit};
+ghost use Rattle.tessellator.specs.State.{mesh_state, with_triangles};
 ghost use Rattle.tessellator.specs.declared.kind.Kind.TheVariants.{FeatheredFill, Line, Loop, Filled};
 ghost use Rattle.tessellator.specs.declared.stroke.Style.TheVariants.{Hard, Thick};
 
 use super::Mesh;
+use super::joint::Joint;
 use crate::kind::Kind;
 use crate::stroke::Style;
 
 impl<'a> Mesh<'a> {
     pub(crate) fn add_triangles(&mut self, base: u32, kind: Kind, points: u32)
-        requires enough { fewest kind ≤ points }
-        requires vertices { base + vertex_count kind points ≤ length (mesh_state self.old).vertices }
-        requires space { index_count kind points ≤ index_room (mesh_state self.old) }
+        requires { TrianglesFit kind base points (mesh_state self.old) }
         ensures { mesh_state self.new ≡ with_triangles base (mesh_state self.old) (triangles kind points) }
     {
         match kind {
@@ -27,69 +27,56 @@ impl<'a> Mesh<'a> {
     }
 
     fn add_feathered(&mut self, base: u32, points: u32)
-        requires enough { 3 ≤ points }
-        requires vertices { base + vertex_count FeatheredFill points ≤ length (mesh_state self.old).vertices }
-        requires space { index_count FeatheredFill points ≤ index_room (mesh_state self.old) }
+        requires { TrianglesFit FeatheredFill base points (mesh_state self.old) }
         ensures { mesh_state self.new ≡ with_triangles base (mesh_state self.old) (triangles FeatheredFill points) }
     {
         self.add_fan(base, 2, 0, points);
-        self.add_skirt(base, points - 1, 0);
-        self.add_skirts(base, points);
+        self.add_closed(base, Joint::Skirt, points);
     }
 
     fn add_line(&mut self, base: u32, style: Style, points: u32)
-        requires enough { 2 ≤ points }
-        requires vertices { base + vertex_count (Line style) points ≤ length (mesh_state self.old).vertices }
-        requires space { index_count (Line style) points ≤ index_room (mesh_state self.old) }
+        requires { TrianglesFit (Line style) base points (mesh_state self.old) }
         ensures { mesh_state self.new ≡ with_triangles base (mesh_state self.old) (triangles (Line style) points) }
     {
         match style {
-            Style::Hard => self.add_planks(base, points),
-            Style::Thin => self.add_bands(base, 3, points),
+            Style::Hard => self.add_joints(base, Joint::Plank, points),
+            Style::Thin => self.add_joints(base, Joint::Rows(3), points),
             Style::Thick => self.add_capped(base, points),
         }
     }
 
     /// A thick line, with two triangles at each end.
     fn add_capped(&mut self, base: u32, points: u32)
-        requires enough { 2 ≤ points }
-        requires vertices { base + vertex_count (Line Thick) points ≤ length (mesh_state self.old).vertices }
-        requires space { index_count (Line Thick) points ≤ index_room (mesh_state self.old) }
+        requires { TrianglesFit (Line Thick) base points (mesh_state self.old) }
         ensures { mesh_state self.new ≡ with_triangles base (mesh_state self.old) (triangles (Line Thick) points) }
     {
         self.add_cap(base, 0);
-        self.add_bands(base, 4, points);
+        self.add_joints(base, Joint::Rows(4), points);
         self.add_cap(base, points - 1);
     }
 
     fn add_loop(&mut self, base: u32, style: Style, points: u32)
-        requires enough { 2 ≤ points }
-        requires vertices { base + vertex_count (Loop style) points ≤ length (mesh_state self.old).vertices }
-        requires space { index_count (Loop style) points ≤ index_room (mesh_state self.old) }
+        requires { TrianglesFit (Loop style) base points (mesh_state self.old) }
         ensures { mesh_state self.new ≡ with_triangles base (mesh_state self.old) (triangles (Loop style) points) }
     {
         match style {
             Style::Hard => self.add_hard_loop(base, points),
-            Style::Thin => self.add_ring(base, 3, points),
-            Style::Thick => self.add_ring(base, 4, points),
+            Style::Thin => self.add_closed(base, Joint::Rows(3), points),
+            Style::Thick => self.add_closed(base, Joint::Rows(4), points),
         }
     }
 
     fn add_hard_loop(&mut self, base: u32, points: u32)
-        requires enough { 2 ≤ points }
-        requires vertices { base + vertex_count (Loop Hard) points ≤ length (mesh_state self.old).vertices }
-        requires space { index_count (Loop Hard) points ≤ index_room (mesh_state self.old) }
+        requires { TrianglesFit (Loop Hard) base points (mesh_state self.old) }
         ensures { mesh_state self.new ≡ with_triangles base (mesh_state self.old) (triangles (Loop Hard) points) }
     {
-        self.add_planks(base, points);
+        self.add_joints(base, Joint::Plank, points);
         self.add_plank(base, points - 1, 0);
     }
 
     /// A loop, and the fill within its last row. That of a hard loop has vertices of its own.
     fn add_filled(&mut self, base: u32, style: Style, points: u32)
-        requires enough { fewest (Filled style) ≤ points }
-        requires vertices { base + vertex_count (Filled style) points ≤ length (mesh_state self.old).vertices }
-        requires space { index_count (Filled style) points ≤ index_room (mesh_state self.old) }
+        requires { TrianglesFit (Filled style) base points (mesh_state self.old) }
         ensures { mesh_state self.new ≡ with_triangles base (mesh_state self.old) (triangles (Filled style) points) }
     {
         self.add_loop(base, style, points);

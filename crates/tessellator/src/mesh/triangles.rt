@@ -1,17 +1,66 @@
 //! Triangles among the vertices of a figure, whose first is the mesh's vertex `base`.
 ghost use Rattle.std.specs.Prelude.{◌≡◌, ◌+◌, ◌-◌, ◌*◌, ◌<◌, ◌≤◌, length};
+ghost use Rattle.tessellator.specs.Joints.{JointFits, JointsFit, closed, joint, joints};
+ghost use Rattle.tessellator.specs.Kinds.{band, cap, fan, plank, polygon, skirt};
 ghost use Rattle.tessellator.specs.State.{mesh_state, with_triangles, index_room};
-ghost use Rattle.tessellator.specs.Kinds.{band, bands, cap, fan, plank, planks, polygon, ring, skirt, skirts};
+ghost use Rattle.tessellator.specs.declared.mesh.joint.Joint.TheVariants.{Plank, Rows, Skirt};
 
 use super::Mesh;
+use super::joint::Joint;
 
 impl<'a> Mesh<'a> {
-    /// The triangles between all rows of the points i and j.
+    /// The triangles between the points i and j.
+    fn add_joint(&mut self, base: u32, kind: Joint, i: u32, j: u32)
+        requires { JointFits kind base i j (mesh_state self.old) }
+        ensures { mesh_state self.new ≡ with_triangles base (mesh_state self.old) (joint kind i j) }
+    {
+        match kind {
+            Joint::Skirt => self.add_skirt(base, i, j),
+            Joint::Plank => self.add_plank(base, i, j),
+            Joint::Rows(rows) => self.add_band(base, rows, i, j),
+        }
+    }
+
+    /// From each of the first points to the next.
+    pub(super) fn add_joints(&mut self, base: u32, kind: Joint, points: u32)
+        requires { JointsFit kind base points (points - 1) (mesh_state self.old) }
+        ensures { mesh_state self.new ≡ with_triangles base (mesh_state self.old) (joints kind points) }
+    {
+        for i in 0..points - 1 {
+            self.add_joint(base, kind, i, i + 1);
+        }
+    }
+
+    /// The same, after the joint from the last point to the first.
+    pub(super) fn add_closed(&mut self, base: u32, kind: Joint, points: u32)
+        requires { JointsFit kind base points points (mesh_state self.old) }
+        ensures { mesh_state self.new ≡ with_triangles base (mesh_state self.old) (closed kind points) }
+    {
+        self.add_joint(base, kind, points - 1, 0);
+        self.add_joints(base, kind, points);
+    }
+
+    /// Between two points of a feathered fill.
+    fn add_skirt(&mut self, base: u32, i: u32, j: u32)
+        requires { JointFits Skirt base i j (mesh_state self.old) }
+        ensures { mesh_state self.new ≡ with_triangles base (mesh_state self.old) (skirt i j) }
+    {
+        self.push_triangle(base, 2 * j, 2 * i, 2 * i + 1);
+        self.push_triangle(base, 2 * i + 1, 2 * j + 1, 2 * j);
+    }
+
+    /// Between two points of a hard line.
+    pub(super) fn add_plank(&mut self, base: u32, i: u32, j: u32)
+        requires { JointFits Plank base i j (mesh_state self.old) }
+        ensures { mesh_state self.new ≡ with_triangles base (mesh_state self.old) (plank i j) }
+    {
+        self.push_triangle(base, 2 * i, 2 * i + 1, 2 * j);
+        self.push_triangle(base, 2 * j, 2 * i + 1, 2 * j + 1);
+    }
+
+    /// Between all rows of two points.
     fn add_band(&mut self, base: u32, rows: u32, i: u32, j: u32)
-        requires some_rows { 1 ≤ rows }
-        requires first_point { base + rows * i + rows ≤ length (mesh_state self.old).vertices }
-        requires second_point { base + rows * j + rows ≤ length (mesh_state self.old).vertices }
-        requires space { 6 * (rows - 1) ≤ index_room (mesh_state self.old) }
+        requires { JointFits (Rows rows) base i j (mesh_state self.old) }
         ensures { mesh_state self.new ≡ with_triangles base (mesh_state self.old) (band rows i j) }
     {
         let from = rows * i;
@@ -20,31 +69,6 @@ impl<'a> Mesh<'a> {
             self.push_triangle(base, from + r, from + (r + 1), to + r);
             self.push_triangle(base, from + (r + 1), to + r, to + (r + 1));
         }
-    }
-
-    /// From each of the first points to the next.
-    pub(super) fn add_bands(&mut self, base: u32, rows: u32, points: u32)
-        requires some_points { 1 ≤ points }
-        requires some_rows { 1 ≤ rows }
-        requires vertices { base + rows * points ≤ length (mesh_state self.old).vertices }
-        requires space { (points - 1) * (6 * (rows - 1)) ≤ index_room (mesh_state self.old) }
-        ensures { mesh_state self.new ≡ with_triangles base (mesh_state self.old) (bands rows (points - 1)) }
-    {
-        for i in 0..points - 1 {
-            self.add_band(base, rows, i, i + 1);
-        }
-    }
-
-    /// The same, after the band from the last point to the first.
-    pub(super) fn add_ring(&mut self, base: u32, rows: u32, points: u32)
-        requires some_points { 1 ≤ points }
-        requires some_rows { 1 ≤ rows }
-        requires vertices { base + rows * points ≤ length (mesh_state self.old).vertices }
-        requires space { points * (6 * (rows - 1)) ≤ index_room (mesh_state self.old) }
-        ensures { mesh_state self.new ≡ with_triangles base (mesh_state self.old) (ring rows points) }
-    {
-        self.add_band(base, rows, points - 1, 0);
-        self.add_bands(base, rows, points);
     }
 
     /// The end of a thick line at the point i.
@@ -56,51 +80,6 @@ impl<'a> Mesh<'a> {
         let from = 4 * i;
         self.push_triangle(base, from, from + 1, from + 2);
         self.push_triangle(base, from, from + 2, from + 3);
-    }
-
-    pub(super) fn add_plank(&mut self, base: u32, i: u32, j: u32)
-        requires first_point { base + 2 * i + 2 ≤ length (mesh_state self.old).vertices }
-        requires second_point { base + 2 * j + 2 ≤ length (mesh_state self.old).vertices }
-        requires space { 6 ≤ index_room (mesh_state self.old) }
-        ensures { mesh_state self.new ≡ with_triangles base (mesh_state self.old) (plank i j) }
-    {
-        self.push_triangle(base, 2 * i, 2 * i + 1, 2 * j);
-        self.push_triangle(base, 2 * j, 2 * i + 1, 2 * j + 1);
-    }
-
-    /// The triangles of a hard line, from each of the first points to the next.
-    pub(super) fn add_planks(&mut self, base: u32, points: u32)
-        requires some_points { 1 ≤ points }
-        requires vertices { base + 2 * points ≤ length (mesh_state self.old).vertices }
-        requires space { 6 * (points - 1) ≤ index_room (mesh_state self.old) }
-        ensures { mesh_state self.new ≡ with_triangles base (mesh_state self.old) (planks points) }
-    {
-        for i in 0..points - 1 {
-            self.add_plank(base, i, i + 1);
-        }
-    }
-
-    /// Between the points i and j of a feathered fill.
-    pub(super) fn add_skirt(&mut self, base: u32, i: u32, j: u32)
-        requires first_point { base + 2 * i + 2 ≤ length (mesh_state self.old).vertices }
-        requires second_point { base + 2 * j + 2 ≤ length (mesh_state self.old).vertices }
-        requires space { 6 ≤ index_room (mesh_state self.old) }
-        ensures { mesh_state self.new ≡ with_triangles base (mesh_state self.old) (skirt i j) }
-    {
-        self.push_triangle(base, 2 * j, 2 * i, 2 * i + 1);
-        self.push_triangle(base, 2 * i + 1, 2 * j + 1, 2 * j);
-    }
-
-    /// From each of the first points of a feathered fill to the next.
-    pub(super) fn add_skirts(&mut self, base: u32, points: u32)
-        requires some_points { 1 ≤ points }
-        requires vertices { base + 2 * points ≤ length (mesh_state self.old).vertices }
-        requires space { 6 * (points - 1) ≤ index_room (mesh_state self.old) }
-        ensures { mesh_state self.new ≡ with_triangles base (mesh_state self.old) (skirts points) }
-    {
-        for i in 0..points - 1 {
-            self.add_skirt(base, i, i + 1);
-        }
     }
 
     /// The points' vertices in one row, as a polygon.
