@@ -2,7 +2,7 @@
 use Rattle.std.proofs.Common.{◌≡◌, ℕ, ◌+◌, ◌-◌, ◌*◌, ◌≤◌, List, [], ◌∷◌, ◌++◌, length, sym, refl, ap, ◌∙◌, add_assoc, arith, length-append}
 use Rattle.tessellator.specs.Joints.{closed}
 use Rattle.tessellator.specs.declared.mesh.joint.Joint.TheVariants.{Plank, Rows, Skirt}
-use Rattle.tessellator.specs.Kinds.{vertex_count, fan, polygon, plank, planks, skirt, skirts, band, bands, ring, cap, triangles, index_count, fewest}
+use Rattle.tessellator.specs.Kinds.{vertex_count, fan, polygon, plank, planks, bands, ring, cap, triangles, index_count, fewest}
 use Rattle.tessellator.specs.State.{MeshState, with_triangles, index_room}
 use Rattle.tessellator.specs.Triangles.{Triangle, tri, raised}
 use Rattle.tessellator.specs.declared.kind.Kind.{Kind}

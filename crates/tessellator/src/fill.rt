@@ -10,7 +10,7 @@ ghost use Rattle.tessellator.specs.Outcome.{Drawn, Grows, KindFits, Sized, after
 ghost use Rattle.tessellator.specs.State.{mesh_state, vertex_room, with_vertices};
 
 use crate::brush::{Brush, Plain};
-use crate::draw::{draw_rows, kind_size};
+use crate::draw::draw_rows;
 use crate::fault::{Appended, FigureFault};
 use crate::kind::Kind;
 use crate::mesh::Mesh;
@@ -20,81 +20,100 @@ use emath::limits::{all_places, is_distance};
 use path::path::Path;
 use path::point::{PathPoint, Side};
 
-/// A transparent fill and one of fewer than three points append nothing.
-fn is_unfilled(color: Color32, points: usize) -> bool
-    ensures { result ≡ fills.is_unfilled color points }
-{
-    color.is_transparent() || points < 3
+/// The softness of a fill's edge, and its colour.
+#[derive(Clone, Copy)]
+pub(crate) struct Filling {
+    pub(crate) feathering: f32,
+    pub(crate) color: Color32,
 }
 
-pub(crate) fn fill_kind(feathering: f32, color: Color32, points: usize) -> Kind
-    ensures { result ≡ fills.fill_kind feathering color points }
-{
-    if is_unfilled(color, points) {
-        Kind::Nothing
-    } else if 0.0 < feathering {
-        Kind::FeatheredFill
-    } else {
-        Kind::HardFill
+impl Filling {
+    /// A transparent fill and one of fewer than three points append nothing.
+    fn is_empty(self, points: usize) -> bool
+        ensures { result ≡ fills.is_unfilled self.color points }
+    {
+        self.color.is_transparent() || points < 3
     }
-}
 
-fn hard_fill_rows(color: Color32) -> [Row; 1]
-    ensures { result ≡ fills.hard_fill_rows color }
-{
-    [Row {
-        side: Side::Along,
-        paint: Paint::Flat(color),
-    }]
-}
-
-fn feathered_fill_rows(feathering: f32, color: Color32) -> [Row; 2]
-    ensures { result ≡ fills.feathered_fill_rows feathering color }
-{
-    let half = 0.5 * feathering;
-    [
-        Row {
-            side: Side::Inward(half),
-            paint: Paint::Flat(color),
-        },
-        Row {
-            side: Side::Outward(half),
-            paint: Paint::Flat(Color32::TRANSPARENT),
-        },
-    ]
-}
-
-/// Appends the fill, and leaves a feathered one's points clockwise.
-pub(crate) fn draw_fill<B: Brush>(
-    path: &mut Path,
-    feathering: f32,
-    color: Color32,
-    brush: &B,
-    out: &mut Mesh,
-)
-    requires { KindFits (fills.fill_kind feathering color (length (held path.old).used)) (length (held path.old).used) (mesh_state out.old) }
-    ensures { Drawn (fills.filled_with (B.paints brush.now) feathering color (held path.old).used) (held path.old) (mesh_state out.old) (held path.new) (mesh_state out.new) }
-{
-    if is_unfilled(color, path.as_slice().len()) {
-        return;
+    pub(crate) fn kind(self, points: usize) -> Kind
+        ensures { result ≡ fills.fill_kind self.feathering self.color points }
+    {
+        if self.is_empty(points) {
+            Kind::Nothing
+        } else if 0.0 < self.feathering {
+            Kind::FeatheredFill
+        } else {
+            Kind::HardFill
+        }
     }
-    if 0.0 < feathering {
-        path.turn_clockwise();
-        let rows = feathered_fill_rows(feathering, color);
-        draw_rows(path, &rows, brush, Kind::FeatheredFill, out);
-    } else {
-        let rows = hard_fill_rows(color);
-        draw_rows(path, &rows, brush, Kind::HardFill, out);
-    }
-}
 
-/// The vertices of a hard fill within a stroke.
-pub(crate) fn add_inner_fill(points: &[PathPoint], color: Color32, out: &mut Mesh)
-    requires { length (fills.fill_figure plane.zero color points.now).vertices ≤ vertex_room (mesh_state out.old) }
-    ensures { mesh_state out.new ≡ with_vertices (mesh_state out.old) (fills.fill_figure plane.zero color points.now).vertices }
-{
-    if !is_unfilled(color, points.len()) {
-        out.add_rows(points, &hard_fill_rows(color), &Plain);
+    fn hard_rows(self) -> [Row; 1]
+        ensures { result ≡ fills.hard_fill_rows self.color }
+    {
+        [Row {
+            side: Side::Along,
+            paint: Paint::Flat(self.color),
+        }]
+    }
+
+    fn feathered_rows(self) -> [Row; 2]
+        ensures { result ≡ fills.feathered_fill_rows self.feathering self.color }
+    {
+        let half = 0.5 * self.feathering;
+        [
+            Row {
+                side: Side::Inward(half),
+                paint: Paint::Flat(self.color),
+            },
+            Row {
+                side: Side::Outward(half),
+                paint: Paint::Flat(Color32::TRANSPARENT),
+            },
+        ]
+    }
+
+    /// What the fill would append, with space enough.
+    fn size(self, path: &Path) -> Result<Appended, FigureFault>
+        ensures { told result ≡ sizing (fills.fill_allowed self.feathering (held path.now).used) (fills.fill_figure self.feathering self.color (held path.now).used) }
+    {
+        let points = path.as_slice();
+        if !is_distance(self.feathering) || !all_places(points) {
+            return Err(FigureFault::OutOfLimits);
+        }
+        let n = points.len();
+        Ok(self.kind(n).size(n))
+    }
+
+    /// Appends the fill, and leaves a feathered one's points clockwise.
+    pub(crate) fn draw<B: Brush>(self, path: &mut Path, brush: &B, out: &mut Mesh)
+        requires { KindFits (fills.fill_kind self.feathering self.color (length (held path.old).used)) (length (held path.old).used) (mesh_state out.old) }
+        ensures { Drawn (fills.filled_with (B.paints brush.now) self.feathering self.color (held path.old).used) (held path.old) (mesh_state out.old) (held path.new) (mesh_state out.new) }
+    {
+        if self.is_empty(path.as_slice().len()) {
+            return;
+        }
+        if 0.0 < self.feathering {
+            path.turn_clockwise();
+            draw_rows(
+                path,
+                &self.feathered_rows(),
+                brush,
+                Kind::FeatheredFill,
+                out,
+            );
+        } else {
+            draw_rows(path, &self.hard_rows(), brush, Kind::HardFill, out);
+        }
+    }
+
+    /// The vertices of a hard fill of this colour within a stroke.
+    pub(crate) fn add_inner(self, points: &[PathPoint], out: &mut Mesh)
+        requires { length (fills.fill_figure plane.zero self.color points.now).vertices ≤ vertex_room (mesh_state out.old) }
+        ensures { mesh_state out.new ≡ with_vertices (mesh_state out.old) (fills.fill_figure plane.zero self.color points.now).vertices }
+    {
+        if !self.is_empty(points.len()) {
+            out.add_rows(points, &self.hard_rows(), &Plain);
+        }
     }
 }
 
@@ -102,12 +121,7 @@ pub(crate) fn add_inner_fill(points: &[PathPoint], color: Color32, out: &mut Mes
 pub fn size_of_fill(path: &Path, feathering: f32, color: Color32) -> Result<Appended, FigureFault>
     ensures { told result ≡ sizing (fills.fill_allowed feathering (held path.now).used) (fills.fill_figure feathering color (held path.now).used) }
 {
-    let points = path.as_slice();
-    if !is_distance(feathering) || !all_places(points) {
-        return Err(FigureFault::OutOfLimits);
-    }
-    let n = points.len();
-    Ok(kind_size(fill_kind(feathering, color, n), n))
+    Filling { feathering, color }.size(path)
 }
 
 /// Fills the path, whole or not at all. A feathered fill of a path that runs counterclockwise turns it.
@@ -121,8 +135,9 @@ pub fn fill(
     ensures grows { Grows (told result) (held path.old) (mesh_state out.old) (held path.new) (mesh_state out.new) }
     ensures sized { Sized (told result) (sizing (fills.fill_allowed feathering (held path.old).used) (fills.fill_figure feathering color (held path.old).used)) (mesh_state out.old) }
 {
-    let size = size_of_fill(path, feathering, color)?;
+    let fill = Filling { feathering, color };
+    let size = fill.size(path)?;
     out.reserve(size)?;
-    draw_fill(path, feathering, color, &Plain, out);
+    fill.draw(path, &Plain, out);
     Ok(size)
 }

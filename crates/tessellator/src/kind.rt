@@ -1,6 +1,8 @@
 //! What figures there are.
 use crate::stroke::Style;
 
+mod size;
+
 /// Nothing, a fill, or a stroke: a line, a loop, or a loop around its fill.
 #[derive(Clone, Copy)]
 pub enum Kind {

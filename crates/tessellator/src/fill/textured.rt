@@ -6,7 +6,7 @@ ghost use Rattle.tessellator.specs.Fills as fills;
 ghost use Rattle.tessellator.specs.Outcome.{after, sizing, textured_outcome};
 ghost use Rattle.tessellator.specs.State.{mesh_state};
 
-use super::{draw_fill, size_of_fill};
+use super::{Filling, size_of_fill};
 use crate::brush::Textured;
 use crate::fault::{Appended, FigureFault};
 use crate::mesh::Mesh;
@@ -39,7 +39,8 @@ pub fn fill_with_uv<U: TextureRule>(
 ) -> Result<Appended, FigureFault>
     ensures { after result path.new out.new ≡ textured_outcome (fills.fill_allowed feathering (held path.old).used) color texture_id (fills.textured_figure feathering color (U.lies uv_from_pos.now) (held path.old).used) (held path.old) (mesh_state out.old) }
 {
-    let size = size_of_fill(path, feathering, color)?;
+    let fill = Filling { feathering, color };
+    let size = fill.size(path)?;
     if color.is_transparent() {
         return Ok(size);
     }
@@ -48,12 +49,6 @@ pub fn fill_with_uv<U: TextureRule>(
     }
     out.reserve_under(texture_id, size)?;
     out.set_texture(texture_id);
-    draw_fill(
-        path,
-        feathering,
-        color,
-        &Textured { rule: uv_from_pos },
-        out,
-    );
+    fill.draw(path, &Textured { rule: uv_from_pos }, out);
     Ok(size)
 }

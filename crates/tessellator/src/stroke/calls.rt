@@ -10,9 +10,7 @@ ghost use Rattle.tessellator.specs.declared.stroke.Course.TheVariants.{Around};
 use super::pen::Pen;
 use super::{Course, PathStroke, PathType};
 use crate::brush::Plain;
-use crate::draw::kind_size;
 use crate::fault::{Appended, FigureFault};
-use crate::fill::draw_fill;
 use crate::mesh::Mesh;
 use ecolor::color::Color32;
 use ecolor::rule::ColorRule;
@@ -29,13 +27,13 @@ impl<'s, C: ColorRule> Pen<'s, C> {
             return;
         }
         if self.stroke.width == 0.0 {
-            draw_fill(path, self.feathering, self.course.fill(), &Plain, out);
+            self.outline().fill().draw(path, &Plain, out);
             return;
         }
         self.face(path);
         if self.is_clear() {
             self.shrink(path);
-            draw_fill(path, self.feathering, self.course.fill(), &Plain, out);
+            self.outline().fill().draw(path, &Plain, out);
             return;
         }
         self.centre(path);
@@ -51,7 +49,7 @@ impl<'s, C: ColorRule> Pen<'s, C> {
             return Err(FigureFault::OutOfLimits);
         }
         let n = points.len();
-        Ok(kind_size(self.kind(n), n))
+        Ok(self.kind(n).size(n))
     }
 
     /// Draws whole or not at all.

@@ -12,7 +12,7 @@ use super::pen::Pen;
 use super::{Course, Style};
 use crate::brush::{Brush, Colored};
 use crate::draw::draw_rows;
-use crate::fill::add_inner_fill;
+use crate::fill::Filling;
 use crate::kind::Kind;
 use crate::mesh::Mesh;
 use ecolor::color::Color32;
@@ -53,6 +53,16 @@ impl Course {
 }
 
 impl Outline {
+    /// What lies within.
+    pub(super) fn fill(self) -> Filling
+        ensures { result ≡ record { feathering = self.feathering; color = strokes.fill_of self.course } }
+    {
+        Filling {
+            feathering: self.feathering,
+            color: self.course.fill(),
+        }
+    }
+
     /// Three rows, the middle one faded.
     fn draw_thin<B: Brush>(self, path: &mut Path, brush: &B, out: &mut Mesh)
         requires enough { 2 ≤ length (held path.old).used }
@@ -108,7 +118,7 @@ impl Outline {
         let base = out.next_vertex();
         out.add_rows(path.as_slice(), &self.hard_rows(), brush);
         self.set_in(path);
-        add_inner_fill(path.as_slice(), self.course.fill(), out);
+        self.fill().add_inner(path.as_slice(), out);
         out.add_triangles(base, self.course.kind(Style::Hard, n), n as u32);
     }
 }

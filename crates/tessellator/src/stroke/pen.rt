@@ -4,7 +4,6 @@ ghost use Rattle.tessellator.specs.Strokes as strokes;
 
 use super::outline::Outline;
 use super::{Course, PathStroke, PathType};
-use crate::fill::fill_kind;
 use crate::kind::Kind;
 use ecolor::color::Color32;
 use ecolor::rule::ColorRule;
@@ -67,7 +66,7 @@ impl<'s, C: ColorRule> Pen<'s, C> {
         if points < 2 {
             Kind::Nothing
         } else if self.stroke.width == 0.0 || self.is_clear() {
-            fill_kind(self.feathering, self.course.fill(), points)
+            self.outline().fill().kind(points)
         } else {
             self.course.kind(self.outline().style(), points)
         }

@@ -16,8 +16,8 @@ returns-in_err-reserve c =
     (fill_shape plain c.args.feathering c.args.color p.used).points c.in_ok-size.size c.in_ok-size.ensures _ c.in_err-reserve.ensures in
     rw (e.1, e.2) (record { outcome = k.outcome; grows = k.grows; sized = k.sized })
 
-pub draw_fill-requires : goal.draw_fill-requires
-draw_fill-requires c =
+pub draw-requires : goal.draw-requires
+draw-requires c =
     let p = held c.args.path.now in
     let m = mesh_state c.args.out.now in
     let shape = fill_shape plain c.args.feathering c.args.color p.used in
@@ -28,5 +28,5 @@ returns c =
     let p = held c.args.path.now in
     let k = drawn_kept (fill_allowed c.args.feathering p.used) (fill_figure c.args.feathering c.args.color p.used) p (mesh_state c.args.out.now)
     (fill_shape plain c.args.feathering c.args.color p.used).points c.in_ok-size.size c.in_ok-size.ensures
-    (held c.draw_fill.new.path) (mesh_state c.draw_fill.new.out) (sym c.in_ok-reserve.was ∙ c.reserve.ensures) c.draw_fill.ensures in
+    (held c.draw.new.path) (mesh_state c.draw.new.out) (sym c.in_ok-reserve.was ∙ c.reserve.ensures) c.draw.ensures in
     record { outcome = k.outcome; grows = k.grows; sized = k.sized }

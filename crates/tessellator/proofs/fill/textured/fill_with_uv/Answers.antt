@@ -18,8 +18,8 @@ returns-in_err-reserve_under g c =
     rw (e.1, e.2) (refused_textured (fill_allowed c.args.feathering p.used) c.args.color c.args.texture_id (textured_figure c.args.feathering c.args.color rule p.used) p (mesh_state c.args.out.now) c.in_ok-size.size
     (c.in_ok-size.ensures ∙ same_sizing rule c.args.feathering c.args.color p.used) (sym c.is_transparent.ensures ∙ c.if-is_transparent.false) (omega (arith, c.if-as_slice-lt3.false)) _ c.in_err-reserve_under.ensures)
 
-pub draw_fill-requires : goal.draw_fill-requires
-draw_fill-requires g c =
+pub draw-requires : goal.draw-requires
+draw-requires g c =
     let p = held c.args.path.now in
     let rule = g.U.TextureRule.lies c.args.uv_from_pos.now in
     let long = ap length c.as_slice.ensures in
@@ -35,4 +35,4 @@ returns g c =
     let long = ap length c.as_slice.ensures in
     drawn_textured (fill_allowed c.args.feathering p.used) c.args.color c.args.texture_id (textured_figure c.args.feathering c.args.color rule p.used) p (mesh_state c.args.out.now) c.in_ok-size.size
     (c.in_ok-size.ensures ∙ same_sizing rule c.args.feathering c.args.color p.used) (sym c.is_transparent.ensures ∙ c.if-is_transparent.false) (omega (arith, c.if-as_slice-lt3.false))
-    _ _ _ c.set_texture.ensures (sym c.in_ok-reserve_under.was ∙ c.reserve_under.ensures) c.draw_fill.ensures
+    _ _ _ c.set_texture.ensures (sym c.in_ok-reserve_under.was ∙ c.reserve_under.ensures) c.draw.ensures

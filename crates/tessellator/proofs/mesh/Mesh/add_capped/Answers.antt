@@ -1,4 +1,4 @@
-use Rattle.std.proofs.Common.{◌-◌, refl, arith}
+use Rattle.std.proofs.Common.{refl, arith}
 use Rattle.tessellator.proofs.Growth.{triangles_step, index_room_left, vertices_kept}
 use Rattle.tessellator.specs.declared.mesh.joint.Joint.TheVariants.{Rows}
 use Rattle.tessellator.proofs.Joints.{length-joints}

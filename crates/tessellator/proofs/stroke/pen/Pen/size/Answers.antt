@@ -8,8 +8,8 @@ use Rattle.tessellator.proofs.Shapes.{shape_size}
 use Rattle.tessellator.proofs.Stroked.{stroke_shape}
 use Rattle.tessellator.proofs.stroke.pen.Pen.size.Goals as goal
 
-pub kind_size-requires : goal.kind_size-requires
-kind_size-requires g c =
+pub size-requires : goal.size-requires
+size-requires g c =
     let pen = meaning g.C.ColorRule.colour g.C.ColorRule.plain c.args.self.now in
     let points = (held c.args.path.now).used in
     let n = length c.as_slice-points.result.now in
