@@ -27,7 +27,7 @@ use path::point::PathPoint;
 fn box_for<C: ColorRule>(points: &[PathPoint], feathering: f32, width: f32, rule: &C) -> Rect
     ensures { C.colour rule.now result ≡ C.colour rule.now (stroke_box feathering width points.now) }
 {
-    if C::consults_box() {
+    if C::READS_BOX {
         Rect::from_points(points).expand(width / 2.0 + feathering)
     } else {
         Rect::nothing()
