@@ -1,5 +1,5 @@
 -- The circle tables as decimal entries, and the one that serves for a radius.
-use Rattle.std.specs.Prelude.{◌≡◌, ℕ, ◌+◌, ◌-◌, ◌*◌, ◌<◌, ◌≤◌, Bool, true, false, if◌then◌else◌, ◌&&◌, T, List, [], ◌∷◌, map, length, ◌==◌, from_bits, slice_index_or, Float}
+use Rattle.std.specs.Prelude.{◌≡◌, ℕ, ◌+◌, ◌-◌, ◌*◌, ◌<◌, ◌≤◌, Bool, true, false, if◌then◌else◌, ◌&&◌, IsTrue, All, List, [], ◌∷◌, map, length, ◌==◌, from_bits, slice_index_or, Float}
 use Rattle.std.specs.Float.{binary32}
 use Rattle.std.specs.Float.Ieee.{round, le, lt}
 use Rattle.emath.specs.Plane as plane
@@ -154,6 +154,6 @@ closes es = let last = entry_at es (length es - 1) in same (entry_at es 0).acros
 
 -- a unit circle of so many steps to the quarter
 pub record UnitCircle (quarter : ℕ) (es : List Entry) : Type 0 where
-  pub round : (k : ℕ) → k < length es → OnUnitCircle (entry_at es k)
-  pub closed : T (closes es)
+  pub round : All OnUnitCircle es
+  pub closed : IsTrue (closes es)
   pub steps : length es ≡ 4 * quarter + 1
