@@ -1,5 +1,5 @@
 -- The circle tables as decimal entries, and the one that serves for a radius.
-use Rattle.std.specs.Prelude.{◌≡◌, ℕ, ◌+◌, ◌-◌, ◌*◌, ◌<◌, ◌≤◌, Bool, true, false, if◌then◌else◌, ◌&&◌, IsTrue, All, List, [], ◌∷◌, map, length, ◌==◌, from_bits, slice_index_or, Float}
+use Rattle.std.specs.Prelude.{◌≡◌, ℕ, ◌+◌, ◌-◌, ◌*◌, ◌≤◌, Bool, true, false, if◌then◌else◌, ◌&&◌, IsTrue, All, List, [], ◌∷◌, map, length, ◌==◌, from_bits, slice_index_or, Float}
 use Rattle.std.specs.Float.{binary32}
 use Rattle.std.specs.Float.Ieee.{round, le, lt}
 use Rattle.emath.specs.Plane as plane
