@@ -1,5 +1,5 @@
 -- The circle tables as decimal entries, and the one that serves for a radius.
-use Rattle.std.specs.Prelude.{◌≡◌, ℕ, ◌+◌, ◌-◌, ◌*◌, ◌<◌, ◌≤◌, Bool, true, false, if◌then◌else◌, ◌&&◌, T, List, [], ◌∷◌, map, length, ◌==◌, from_bits, slice_index_or, Float}
+use Rattle.std.specs.Prelude.{◌≡◌, ℕ, ◌+◌, ◌-◌, ◌*◌, ◌≤◌, Bool, true, false, if◌then◌else◌, ◌&&◌, IsTrue, All, List, [], ◌∷◌, map, length, ◌==◌, from_bits, slice_index_or, Float}
 use Rattle.std.specs.Float.{binary32}
 use Rattle.std.specs.Float.Ieee.{round, le, lt}
 use Rattle.emath.specs.Plane as plane
@@ -29,12 +29,13 @@ abbrev pub direction : Entry → Vec2
 direction e = record { x = nearest e.across; y = nearest e.along }
 
 -- ---- the tables
+-- Those of 16 and of 128 are written out. Each other one is every second entry of the next; but 16 and 32 differ
+-- in the last digit of three entries and in the signs of two zeros.
 
-unfoldable pub entries8 : List Entry
-entries8 =
-    entry (up 1000000) (up 0) ∷ entry (up 707107) (up 707107) ∷ entry (up 0) (up 1000000) ∷ entry (down 707107) (up 707107) ∷
-    entry (down 1000000) (up 0) ∷ entry (down 707107) (down 707107) ∷ entry (up 0) (down 1000000) ∷ entry (up 707107) (down 707107) ∷
-    entry (up 1000000) (up 0) ∷ []
+abbrev pub every_second : List Entry → List Entry
+every_second [] = []
+every_second (e ∷ []) = e ∷ []
+every_second (e ∷ f ∷ es) = e ∷ every_second es
 
 unfoldable pub entries16 : List Entry
 entries16 =
@@ -44,37 +45,8 @@ entries16 =
     entry (up 0) (down 1000000) ∷ entry (up 382684) (down 923879) ∷ entry (up 707107) (down 707107) ∷ entry (up 923880) (down 382683) ∷
     entry (up 1000000) (up 0) ∷ []
 
-unfoldable pub entries32 : List Entry
-entries32 =
-    entry (up 1000000) (up 0) ∷ entry (up 980785) (up 195090) ∷ entry (up 923880) (up 382683) ∷ entry (up 831470) (up 555570) ∷
-    entry (up 707107) (up 707107) ∷ entry (up 555570) (up 831470) ∷ entry (up 382683) (up 923880) ∷ entry (up 195090) (up 980785) ∷
-    entry (up 0) (up 1000000) ∷ entry (down 195090) (up 980785) ∷ entry (down 382683) (up 923880) ∷ entry (down 555570) (up 831470) ∷
-    entry (down 707107) (up 707107) ∷ entry (down 831470) (up 555570) ∷ entry (down 923880) (up 382683) ∷ entry (down 980785) (up 195090) ∷
-    entry (down 1000000) (up 0) ∷ entry (down 980785) (down 195090) ∷ entry (down 923880) (down 382683) ∷ entry (down 831470) (down 555570) ∷
-    entry (down 707107) (down 707107) ∷ entry (down 555570) (down 831470) ∷ entry (down 382683) (down 923880) ∷ entry (down 195090) (down 980785) ∷
-    entry (down 0) (down 1000000) ∷ entry (up 195090) (down 980785) ∷ entry (up 382683) (down 923880) ∷ entry (up 555570) (down 831470) ∷
-    entry (up 707107) (down 707107) ∷ entry (up 831470) (down 555570) ∷ entry (up 923880) (down 382683) ∷ entry (up 980785) (down 195090) ∷
-    entry (up 1000000) (down 0) ∷ []
-
-unfoldable pub entries64 : List Entry
-entries64 =
-    entry (up 1000000) (up 0) ∷ entry (up 995185) (up 98017) ∷ entry (up 980785) (up 195090) ∷ entry (up 956940) (up 290285) ∷
-    entry (up 923880) (up 382683) ∷ entry (up 881921) (up 471397) ∷ entry (up 831470) (up 555570) ∷ entry (up 773010) (up 634393) ∷
-    entry (up 707107) (up 707107) ∷ entry (up 634393) (up 773010) ∷ entry (up 555570) (up 831470) ∷ entry (up 471397) (up 881921) ∷
-    entry (up 382683) (up 923880) ∷ entry (up 290285) (up 956940) ∷ entry (up 195090) (up 980785) ∷ entry (up 98017) (up 995185) ∷
-    entry (up 0) (up 1000000) ∷ entry (down 98017) (up 995185) ∷ entry (down 195090) (up 980785) ∷ entry (down 290285) (up 956940) ∷
-    entry (down 382683) (up 923880) ∷ entry (down 471397) (up 881921) ∷ entry (down 555570) (up 831470) ∷ entry (down 634393) (up 773010) ∷
-    entry (down 707107) (up 707107) ∷ entry (down 773010) (up 634393) ∷ entry (down 831470) (up 555570) ∷ entry (down 881921) (up 471397) ∷
-    entry (down 923880) (up 382683) ∷ entry (down 956940) (up 290285) ∷ entry (down 980785) (up 195090) ∷ entry (down 995185) (up 98017) ∷
-    entry (down 1000000) (up 0) ∷ entry (down 995185) (down 98017) ∷ entry (down 980785) (down 195090) ∷ entry (down 956940) (down 290285) ∷
-    entry (down 923880) (down 382683) ∷ entry (down 881921) (down 471397) ∷ entry (down 831470) (down 555570) ∷ entry (down 773010) (down 634393) ∷
-    entry (down 707107) (down 707107) ∷ entry (down 634393) (down 773010) ∷ entry (down 555570) (down 831470) ∷ entry (down 471397) (down 881921) ∷
-    entry (down 382683) (down 923880) ∷ entry (down 290285) (down 956940) ∷ entry (down 195090) (down 980785) ∷ entry (down 98017) (down 995185) ∷
-    entry (down 0) (down 1000000) ∷ entry (up 98017) (down 995185) ∷ entry (up 195090) (down 980785) ∷ entry (up 290285) (down 956940) ∷
-    entry (up 382683) (down 923880) ∷ entry (up 471397) (down 881921) ∷ entry (up 555570) (down 831470) ∷ entry (up 634393) (down 773010) ∷
-    entry (up 707107) (down 707107) ∷ entry (up 773010) (down 634393) ∷ entry (up 831470) (down 555570) ∷ entry (up 881921) (down 471397) ∷
-    entry (up 923880) (down 382683) ∷ entry (up 956940) (down 290285) ∷ entry (up 980785) (down 195090) ∷ entry (up 995185) (down 98017) ∷
-    entry (up 1000000) (down 0) ∷ []
+unfoldable pub entries8 : List Entry
+entries8 = every_second entries16
 
 unfoldable pub entries128 : List Entry
 entries128 =
@@ -111,6 +83,12 @@ entries128 =
     entry (up 923880) (down 382683) ∷ entry (up 941544) (down 336890) ∷ entry (up 956940) (down 290285) ∷ entry (up 970031) (down 242980) ∷
     entry (up 980785) (down 195090) ∷ entry (up 989177) (down 146730) ∷ entry (up 995185) (down 98017) ∷ entry (up 998795) (down 49068) ∷
     entry (up 1000000) (down 0) ∷ []
+
+unfoldable pub entries64 : List Entry
+entries64 = every_second entries128
+
+unfoldable pub entries32 : List Entry
+entries32 = every_second entries64
 
 -- ---- which one serves
 
@@ -154,6 +132,6 @@ closes es = let last = entry_at es (length es - 1) in same (entry_at es 0).acros
 
 -- a unit circle of so many steps to the quarter
 pub record UnitCircle (quarter : ℕ) (es : List Entry) : Type 0 where
-  pub round : (k : ℕ) → k < length es → OnUnitCircle (entry_at es k)
-  pub closed : T (closes es)
+  pub round : All OnUnitCircle es
+  pub closed : IsTrue (closes es)
   pub steps : length es ≡ 4 * quarter + 1

@@ -6,6 +6,8 @@ ghost use Rattle.circles.specs.Circles.{circle, entries, quarter_steps, UnitCirc
 
 use emath::plane::Vec2;
 
+// Five tables, since the result is a table as it stands, in constant memory, and no constant is made from another's items.
+
 #[rattlefmt::skip]
 const CIRCLE_8: [Vec2; 9] = [
     Vec2 { x: 1.000000, y: 0.000000 },

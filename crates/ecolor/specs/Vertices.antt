@@ -7,6 +7,9 @@ use Rattle.ecolor.specs.declared.vertex.TextureId.{TextureId}
 use Rattle.ecolor.specs.declared.vertex.TextureId.TheVariants.{Managed, User}
 use Rattle.ecolor.specs.declared.vertex.Vertex.{Vertex}
 
+abbrev pub default_texture : TextureId
+default_texture = Managed 0
+
 -- the default texture is Managed 0
 abbrev pub is_default : TextureId → Bool
 is_default (Managed number) = number == 0

@@ -5,7 +5,7 @@ ghost use Rattle.ecolor.specs.Colors as colors;
 use std::num::saturating_f32_to_u8;
 
 /// Red, green, blue and alpha. Only the colour whose bytes are all 0 is transparent.
-#[derive(Clone, Copy)]
+#[derive(Clone, Copy, Default, PartialEq, Eq)]
 pub struct Color32 {
     pub r: u8,
     pub g: u8,
@@ -31,7 +31,7 @@ impl Color32 {
     pub fn is_transparent(self) -> bool
         ensures { result ≡ colors.is_transparent self }
     {
-        self.r == 0 && self.g == 0 && self.b == 0 && self.a == 0
+        self == Color32::TRANSPARENT
     }
 
     /// Each byte times the factor, rounded.

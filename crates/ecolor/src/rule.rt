@@ -15,15 +15,11 @@ pub trait ColorRule {
     /// Whether the answer depends on the box.
     const READS_BOX: bool;
 
-    ghost reads: { Bool };
+    ghost READS_BOX: { Bool };
 
     ghost colour: { Self → Rect → Pos2 → Color32 };
 
     ghost plain: { Self → Option Color32 };
-
-    /// `READS_BOX`, for contracts.
-    fn consults_box() -> bool
-        ensures { result ≡ reads };
 
     fn color_at(&self, bounds: Rect, pos: Pos2) -> Color32
         ensures { result ≡ colour self.now bounds pos };
@@ -32,7 +28,7 @@ pub trait ColorRule {
         ensures { result ≡ plain self.now };
 
     // unless it reads the box, the box makes no difference
-    ghost boxless: { reads ≡ false → (s : Self) (b c : Rect) (p : Pos2) → colour s b p ≡ colour s c p };
+    ghost boxless: { READS_BOX ≡ false → (s : Self) (b c : Rect) (p : Pos2) → colour s b p ≡ colour s c p };
 
     // where there is a plain colour, every place has it
     ghost everywhere: { (s : Self) (k : Color32) → plain s ≡ Some k → (b : Rect) (p : Pos2) → colour s b p ≡ k };
@@ -47,7 +43,7 @@ pub struct Solid {
 impl ColorRule for Solid {
     const READS_BOX: bool = false;
 
-    ghost reads = { false };
+    ghost READS_BOX = { false };
 
     ghost colour = { λ s _ _. s.color };
 
@@ -56,10 +52,6 @@ impl ColorRule for Solid {
     ghost boxless = { Prim.search rules };
 
     ghost everywhere = { Prim.search rules };
-
-    fn consults_box() -> bool {
-        Self::READS_BOX
-    }
 
     fn color_at(&self, _bounds: Rect, _pos: Pos2) -> Color32 {
         self.color
@@ -82,7 +74,7 @@ pub struct Zones {
 impl ColorRule for Zones {
     const READS_BOX: bool = true;
 
-    ghost reads = { true };
+    ghost READS_BOX = { true };
 
     ghost colour = { zone_colour };
 
@@ -91,10 +83,6 @@ impl ColorRule for Zones {
     ghost boxless = { Prim.search rules };
 
     ghost everywhere = { Prim.search rules };
-
-    fn consults_box() -> bool {
-        Self::READS_BOX
-    }
 
     fn color_at(&self, bounds: Rect, pos: Pos2) -> Color32 {
         let t = (pos.x - bounds.min.x) / (bounds.max.x - bounds.min.x);

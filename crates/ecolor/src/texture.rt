@@ -5,6 +5,7 @@ ghost use Rattle.ecolor.specs.Textures.{stretched, stretched_place};
 
 use emath::plane::Pos2;
 use emath::rect::Rect;
+use std::ops::Range;
 
 /// One place in the texture for each place.
 pub trait TextureRule {
@@ -36,10 +37,10 @@ pub struct Stretch {
 }
 
 /// Where a coordinate lies in the range `to`, as it lies in the range `from`.
-fn remap(p: f32, from: (f32, f32), to: (f32, f32)) -> f32
-    ensures { result ≡ stretched p from.0 from.1 to.0 to.1 }
+fn remap(p: f32, from: Range<f32>, to: Range<f32>) -> f32
+    ensures { result ≡ stretched p from.start from.end to.start to.end }
 {
-    to.0 + (p - from.0) / (from.1 - from.0) * (to.1 - to.0)
+    to.start + (p - from.start) / (from.end - from.start) * (to.end - to.start)
 }
 
 impl TextureRule for Stretch {
@@ -48,8 +49,8 @@ impl TextureRule for Stretch {
     fn uv_at(&self, pos: Pos2) -> Pos2 {
         let Stretch { from, to } = *self;
         Pos2 {
-            x: remap(pos.x, (from.min.x, from.max.x), (to.min.x, to.max.x)),
-            y: remap(pos.y, (from.min.y, from.max.y), (to.min.y, to.max.y)),
+            x: remap(pos.x, from.min.x..from.max.x, to.min.x..to.max.x),
+            y: remap(pos.y, from.min.y..from.max.y, to.min.y..to.max.y),
         }
     }
 }

@@ -6,14 +6,14 @@ use crate::color::Color32;
 use emath::plane::Pos2;
 
 /// Which texture a mesh is drawn with.
-#[derive(Clone, Copy)]
+#[derive(Clone, Copy, PartialEq, Eq)]
 pub enum TextureId {
     Managed(u64),
     User(u64),
 }
 
 /// A place, a place in the texture and a colour.
-#[derive(Clone, Copy)]
+#[derive(Clone, Copy, Default, PartialEq)]
 pub struct Vertex {
     pub pos: Pos2,
     pub uv: Pos2,
@@ -27,21 +27,21 @@ impl TextureId {
     pub fn is_default(self) -> bool
         ensures { result ≡ vertices.is_default self }
     {
-        match self {
-            TextureId::Managed(number) => number == 0,
-            TextureId::User(_) => false,
-        }
+        self == TextureId::DEFAULT
     }
 
     pub fn is_same(self, other: TextureId) -> bool
         ensures { result ≡ vertices.same_texture self other }
     {
-        match (self, other) {
-            (TextureId::Managed(a), TextureId::Managed(b)) => a == b,
-            (TextureId::User(a), TextureId::User(b)) => a == b,
-            (TextureId::Managed(_), TextureId::User(_)) => false,
-            (TextureId::User(_), TextureId::Managed(_)) => false,
-        }
+        self == other
+    }
+}
+
+impl Default for TextureId {
+    ghost is_default = { λ id. id ≡ vertices.default_texture };
+
+    fn default() -> TextureId {
+        TextureId::DEFAULT
     }
 }
 
@@ -50,7 +50,10 @@ impl Vertex {
     pub fn untextured(pos: Pos2, color: Color32) -> Vertex
         ensures { result ≡ vertices.untextured pos color }
     {
-        let uv = Pos2 { x: 0.0, y: 0.0 };
-        Vertex { pos, uv, color }
+        Vertex {
+            pos,
+            uv: Pos2::default(),
+            color,
+        }
     }
 }

@@ -1,5 +1,6 @@
 -- The limits on places and distances. A not-a-number lies within none.
-use Rattle.std.specs.Prelude.{Bool, true, ◌&&◌, List, [], ◌∷◌, from_bits, Float}
+use Rattle.std.specs.Prelude.{Bool, ◌&&◌, List, from_bits, Float}
+use Rattle.std.specs.List.{list_all}
 use Rattle.std.specs.Float.Ieee.{neg, le}
 use Rattle.std.specs.Float.{float_is_finite, binary32}
 use Rattle.emath.specs.declared.plane.Pos2.{Pos2}
@@ -21,8 +22,7 @@ abbrev pub is_place : Pos2 → Bool
 is_place p = is_coordinate p.x && is_coordinate p.y
 
 abbrev pub all_places : List Pos2 → Bool
-all_places [] = true
-all_places (p ∷ ps) = is_place p && all_places ps
+all_places = list_all is_place
 
 -- from 0 to 65,536
 abbrev pub is_distance : Float → Bool

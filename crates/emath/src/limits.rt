@@ -5,10 +5,12 @@ ghost use Rattle.emath.specs.Limits as limits;
 use crate::located::Located;
 use crate::plane::{Pos2, Vec2};
 
+const FARTHEST: f32 = 1_048_576.0;
+
 fn is_coordinate(x: f32) -> bool
     ensures { result ≡ limits.is_coordinate x }
 {
-    -1_048_576.0 <= x && x <= 1_048_576.0
+    (-FARTHEST..=FARTHEST).contains(&x)
 }
 
 /// Both coordinates lie within 1,048,576 of zero.
@@ -22,19 +24,14 @@ pub fn is_place(p: Pos2) -> bool
 pub fn all_places<P: Located>(items: &[P]) -> bool
     ensures { result ≡ limits.all_places (map P.place items.now) }
 {
-    for item in items {
-        if !is_place(item.pos()) {
-            return false;
-        }
-    }
-    true
+    items.iter().all(|item| is_place(item.pos()))
 }
 
 /// Widths, feathering and radii lie from 0 to 65,536.
 pub fn is_distance(d: f32) -> bool
     ensures { result ≡ limits.is_distance d }
 {
-    0.0 <= d && d <= 65_536.0
+    (0.0..=65_536.0).contains(&d)
 }
 
 /// Both parts are finite.

@@ -31,7 +31,7 @@ pub struct TwoTone {
 impl ColorRule for TwoTone {
     const READS_BOX: bool = false;
 
-    ghost reads = { false };
+    ghost READS_BOX = { false };
 
     ghost colour = { λ s _ p. tone_at s p };
 
@@ -40,10 +40,6 @@ impl ColorRule for TwoTone {
     ghost boxless = { Prim.search rules };
 
     ghost everywhere = { Prim.search rules };
-
-    fn consults_box() -> bool {
-        Self::READS_BOX
-    }
 
     fn color_at(&self, _bounds: Rect, pos: Pos2) -> Color32 {
         if pos.x < self.border {

@@ -6,7 +6,7 @@ use Rattle.circles.proofs.Circles.{unit_circle}
 use Rattle.circles.proofs.circle_for.Goals as goal
 
 pub returns-then-radius : goal.returns-then-radius
-unfolding circle entries8 of_bits round
+unfolding circle entries8 entries16 of_bits round
 returns-then-radius c = record { table = simp c.if-radius.true refl; stands = unit_circle c.args.radius }
 
 pub returns-then-radius-2 : goal.returns-then-radius-2
@@ -14,11 +14,11 @@ unfolding circle entries16 of_bits round
 returns-then-radius-2 c = record { table = simp (c.if-radius.false, c.if-radius-2.true) refl; stands = unit_circle c.args.radius }
 
 pub returns-then-radius-3 : goal.returns-then-radius-3
-unfolding circle entries32 of_bits round
+unfolding circle entries32 entries64 entries128 of_bits round
 returns-then-radius-3 c = record { table = simp (c.if-radius.false, c.if-radius-2.false, c.if-radius-3.true) refl; stands = unit_circle c.args.radius }
 
 pub returns-then-radius-4 : goal.returns-then-radius-4
-unfolding circle entries64 of_bits round
+unfolding circle entries64 entries128 of_bits round
 returns-then-radius-4 c = record { table = simp (c.if-radius.false, c.if-radius-2.false, c.if-radius-3.false, c.if-radius-4.true) refl; stands = unit_circle c.args.radius }
 
 pub returns-else-radius-4 : goal.returns-else-radius-4

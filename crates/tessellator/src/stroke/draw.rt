@@ -128,7 +128,7 @@ impl<'s, C: ColorRule> Pen<'s, C> {
     fn bounds(&self, points: &[PathPoint]) -> Rect
         ensures { C.colour self.now.stroke.now.color result ≡ C.colour self.now.stroke.now.color (stroke_box self.now.feathering self.now.stroke.now.width points.now) }
     {
-        if C::consults_box() {
+        if C::READS_BOX {
             Rect::from_points(points).expand(self.stroke.width / 2.0 + self.feathering)
         } else {
             Rect::nothing()
