@@ -6,7 +6,7 @@ use emath::limits::is_distance;
 use emath::rect::{Rect, greatest, least};
 
 /// North is towards lesser y, west towards lesser x.
-#[derive(Clone, Copy)]
+#[derive(Clone, Copy, Default, PartialEq)]
 pub struct CornerRadiusF32 {
     pub nw: f32,
     pub ne: f32,
@@ -39,6 +39,6 @@ impl CornerRadiusF32 {
     pub(crate) fn is_zero(self) -> bool
         ensures { result ≡ arcs.no_radii self }
     {
-        self.nw == 0.0 && self.ne == 0.0 && self.sw == 0.0 && self.se == 0.0
+        self == CornerRadiusF32::default()
     }
 }

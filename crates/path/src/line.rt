@@ -27,12 +27,6 @@ pub(crate) trait Joint: Copy {
         ensures { result ≡ joins n0 n1 };
 }
 
-fn is_zero(v: Vec2) -> bool
-    ensures { result ≡ lines.is_zero v }
-{
-    v.x == 0.0 && v.y == 0.0
-}
-
 /// The normal of the edge from `a` to `b`.
 pub(crate) fn edge_normal(a: Pos2, b: Pos2) -> Vec2
     ensures { result ≡ lines.edge_normal a b }
@@ -44,9 +38,9 @@ pub(crate) fn edge_normal(a: Pos2, b: Pos2) -> Vec2
 fn meeting(n0: Vec2, n1: Vec2) -> (Vec2, Vec2)
     ensures { result ≡ (lines.before n0 n1, lines.after n0 n1) }
 {
-    if is_zero(n0) {
+    if n0 == Vec2::ZERO {
         (n1, n1)
-    } else if is_zero(n1) {
+    } else if n1 == Vec2::ZERO {
         (n0, n0)
     } else {
         (n0, n1)

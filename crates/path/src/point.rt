@@ -6,7 +6,7 @@ use emath::located::Located;
 use emath::plane::*;
 
 /// A place, and the normal of the path there.
-#[derive(Clone, Copy)]
+#[derive(Clone, Copy, Default, PartialEq)]
 pub struct PathPoint {
     pub pos: Pos2,
     pub normal: Vec2,
