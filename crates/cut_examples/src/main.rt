@@ -15,19 +15,6 @@ use tessellator::mesh::Mesh;
 use tessellator::stroke::open::stroke_open;
 use tessellator::stroke::{PathStroke, StrokeKind};
 
-const ORIGIN: Pos2 = Pos2 { x: 0.0, y: 0.0 };
-
-const NO_POINT: PathPoint = PathPoint {
-    pos: ORIGIN,
-    normal: Vec2::ZERO,
-};
-
-const NO_VERTEX: Vertex = Vertex {
-    pos: ORIGIN,
-    uv: ORIGIN,
-    color: Color32::TRANSPARENT,
-};
-
 const NO_PART: Part = Part {
     first_vertex: 0,
     vertex_count: 0,
@@ -85,8 +72,8 @@ fn print_line(rt: &HostRuntime, length: u16) -> anyhow::Result<()> {
             y: 0.0,
         })?;
     }
-    let mut points = vec![in heap; NO_POINT; 20_000]?;
-    let mut vertices = vec![in heap; NO_VERTEX; 70_000]?;
+    let mut points = vec![in heap; PathPoint::default(); 20_000]?;
+    let mut vertices = vec![in heap; Vertex::default(); 70_000]?;
     let mut indices = vec![in heap; 0u32; 300_000]?;
     let mut path = Path::new(&mut points);
     let mut mesh = Mesh::with_texture(TextureId::DEFAULT, &mut vertices, &mut indices);

@@ -18,19 +18,6 @@ use tessellator::mesh::Mesh;
 /// One byte more than a file may have, so that a longer one is seen.
 const READ_BYTES: u64 = 49_153;
 
-const ORIGIN: Pos2 = Pos2 { x: 0.0, y: 0.0 };
-
-const NO_POINT: PathPoint = PathPoint {
-    pos: ORIGIN,
-    normal: Vec2::ZERO,
-};
-
-const NO_VERTEX: Vertex = Vertex {
-    pos: ORIGIN,
-    uv: ORIGIN,
-    color: Color32::TRANSPARENT,
-};
-
 const NO_PART: Part = Part {
     first_vertex: 0,
     vertex_count: 0,
@@ -72,9 +59,9 @@ fn print_parts(rt: &HostRuntime, mesh: &Finished) -> anyhow::Result<()> {
 fn main(rt: HostRuntime) -> anyhow::Result<()> {
     let mut bytes = Vec::new(rt.alloc());
     rt.stdin().take(READ_BYTES).read_to_end(&mut bytes)?;
-    let mut points = [NO_POINT; 512];
-    let mut places = [ORIGIN; 6_144];
-    let mut vertices = [NO_VERTEX; 2_048];
+    let mut points = [PathPoint::default(); 512];
+    let mut places = [Pos2::default(); 6_144];
+    let mut vertices = [Vertex::default(); 2_048];
     let mut indices = [0u32; 12_288];
     let mut path = Path::new(&mut points);
     let mut mesh = Mesh::with_texture(TextureId::DEFAULT, &mut vertices, &mut indices);

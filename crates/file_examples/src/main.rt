@@ -9,19 +9,6 @@ use path::path::Path;
 use path::point::PathPoint;
 use tessellator::mesh::Mesh;
 
-const ORIGIN: Pos2 = Pos2 { x: 0.0, y: 0.0 };
-
-const NO_POINT: PathPoint = PathPoint {
-    pos: ORIGIN,
-    normal: Vec2::ZERO,
-};
-
-const NO_VERTEX: Vertex = Vertex {
-    pos: ORIGIN,
-    uv: ORIGIN,
-    color: Color32::TRANSPARENT,
-};
-
 /// From (0, 0) to (3, 4).
 const LINE: [u8; 19] = [
     2, 0, 16, 0, 0, 0, 0, 0, 0, 0, 0, 0x40, 0x40, 0, 0, 0x40, 0x80, 0, 0,
@@ -101,9 +88,9 @@ fn print_file_in(
     println!(rt; "{name}")?;
     let heap = rt.alloc();
     let [p, v, i] = room;
-    let mut points = vec![in heap; NO_POINT; p]?;
-    let mut places = vec![in heap; ORIGIN; 6_144]?;
-    let mut vertices = vec![in heap; NO_VERTEX; v]?;
+    let mut points = vec![in heap; PathPoint::default(); p]?;
+    let mut places = vec![in heap; Pos2::default(); 6_144]?;
+    let mut vertices = vec![in heap; Vertex::default(); v]?;
     let mut indices = vec![in heap; 0u32; i]?;
     print_in(
         rt,

@@ -5,26 +5,14 @@
 use ecolor::color::Color32;
 use ecolor::rule::{ColorRule, Solid, Zones};
 use ecolor::vertex::{TextureId, Vertex};
-use emath::plane::{Pos2, Vec2};
+use emath::plane::Pos2;
 use path::path::Path;
 use path::point::PathPoint;
-use std::num::f32_to_bits_with_nan;
+use printed::Printed;
+use std::fmt;
 use tessellator::mesh::Mesh;
 use tessellator::stroke::open::stroke_open;
 use tessellator::stroke::{PathStroke, StrokeKind};
-
-const ORIGIN: Pos2 = Pos2 { x: 0.0, y: 0.0 };
-
-const NO_POINT: PathPoint = PathPoint {
-    pos: ORIGIN,
-    normal: Vec2::ZERO,
-};
-
-const NO_VERTEX: Vertex = Vertex {
-    pos: ORIGIN,
-    uv: ORIGIN,
-    color: Color32::TRANSPARENT,
-};
 
 const STRAIGHT: [Pos2; 2] = [Pos2 { x: 0.0, y: 0.0 }, Pos2 { x: 3.0, y: 4.0 }];
 
@@ -88,26 +76,13 @@ const SCALE: Zones = Zones {
     },
 };
 
-fn print_path(rt: &HostRuntime, path: &Path) -> anyhow::Result<()> {
-    for point in path.as_slice() {
-        let x = f32_to_bits_with_nan(point.pos.x);
-        let y = f32_to_bits_with_nan(point.pos.y);
-        let nx = f32_to_bits_with_nan(point.normal.x);
-        let ny = f32_to_bits_with_nan(point.normal.y);
-        println!(rt; "  point {x:08x} {y:08x} normal {nx:08x} {ny:08x}")?;
-    }
-    Ok(())
-}
-
-fn print_vertices(rt: &HostRuntime, vertices: &[Vertex]) -> anyhow::Result<()> {
-    for vertex in vertices {
-        let x = f32_to_bits_with_nan(vertex.pos.x);
-        let y = f32_to_bits_with_nan(vertex.pos.y);
-        let u = f32_to_bits_with_nan(vertex.uv.x);
-        let v = f32_to_bits_with_nan(vertex.uv.y);
-        let c = vertex.color;
-        let color = u32::from_be_bytes([c.r, c.g, c.b, c.a]);
-        println!(rt; "  vertex {x:08x} {y:08x} texture {u:08x} {v:08x} colour {color:08x}")?;
+/// A line for each of them.
+fn print_all<T: Copy>(rt: &HostRuntime, items: &[T]) -> anyhow::Result<()>
+where
+    Printed<T>: fmt::Display,
+{
+    for item in items {
+        println!(rt; "  {}", Printed(*item))?;
     }
     Ok(())
 }
@@ -128,8 +103,8 @@ fn print_stroke<C: ColorRule>(
     feathering: f32,
     stroke: &PathStroke<C>,
 ) -> anyhow::Result<()> {
-    let mut points = [NO_POINT; 16];
-    let mut vertices = [NO_VERTEX; 64];
+    let mut points = [PathPoint::default(); 16];
+    let mut vertices = [Vertex::default(); 64];
     let mut indices = [0u32; 256];
     let mut path = Path::new(&mut points);
     let mut mesh = Mesh::with_texture(TextureId::DEFAULT, &mut vertices, &mut indices);
@@ -148,68 +123,33 @@ fn print_stroke<C: ColorRule>(
             println!(rt; "stroke: refused {number}")?;
         }
     }
-    print_path(rt, &path)?;
-    print_vertices(rt, mesh.vertices())?;
+    print_all(rt, path.as_slice())?;
+    print_all(rt, mesh.vertices())?;
     print_triangles(rt, mesh.indices())
 }
 
-fn print_solid(
+/// A line over the places in a colour rule.
+fn print_in<C: ColorRule + Copy>(
     rt: &HostRuntime,
     places: &[Pos2],
     feathering: f32,
     width: f32,
     kind: StrokeKind,
+    color: C,
 ) -> anyhow::Result<()> {
-    print_stroke(
-        rt,
-        places,
-        feathering,
-        &PathStroke {
-            width,
-            color: PLAIN,
-            kind,
-        },
-    )
-}
-
-fn print_zones(
-    rt: &HostRuntime,
-    places: &[Pos2],
-    feathering: f32,
-    width: f32,
-    kind: StrokeKind,
-) -> anyhow::Result<()> {
-    print_stroke(
-        rt,
-        places,
-        feathering,
-        &PathStroke {
-            width,
-            color: SCALE,
-            kind,
-        },
-    )
+    print_stroke(rt, places, feathering, &PathStroke { width, color, kind })
 }
 
 fn main(rt: HostRuntime) -> anyhow::Result<()> {
-    print_solid(&rt, &STRAIGHT, 1.0, 2.0, StrokeKind::Middle)?;
-    print_solid(&rt, &STRAIGHT, 1.0, 0.5, StrokeKind::Middle)?;
-    print_solid(&rt, &STRAIGHT, 0.0, 2.0, StrokeKind::Middle)?;
-    print_solid(&rt, &CORNER, 1.0, 3.0, StrokeKind::Inside)?;
-    print_solid(&rt, &SHARP, 1.0, 3.0, StrokeKind::Outside)?;
-    print_solid(&rt, &SHARP, 3.0, 2.7, StrokeKind::Middle)?;
-    print_solid(&rt, &CORNER, 1.0, 0.0, StrokeKind::Inside)?;
-    print_zones(&rt, &DOUBLED, 1.0, 4.0, StrokeKind::Middle)?;
-    print_zones(&rt, &CORNER, 2.0, 1.5, StrokeKind::Outside)?;
-    print_zones(&rt, &SHARP, 0.0, 2.5, StrokeKind::Inside)?;
-    print_stroke(
-        &rt,
-        &CORNER,
-        1.0,
-        &PathStroke {
-            width: 2.0,
-            color: CLEAR,
-            kind: StrokeKind::Inside,
-        },
-    )
+    print_in(&rt, &STRAIGHT, 1.0, 2.0, StrokeKind::Middle, PLAIN)?;
+    print_in(&rt, &STRAIGHT, 1.0, 0.5, StrokeKind::Middle, PLAIN)?;
+    print_in(&rt, &STRAIGHT, 0.0, 2.0, StrokeKind::Middle, PLAIN)?;
+    print_in(&rt, &CORNER, 1.0, 3.0, StrokeKind::Inside, PLAIN)?;
+    print_in(&rt, &SHARP, 1.0, 3.0, StrokeKind::Outside, PLAIN)?;
+    print_in(&rt, &SHARP, 3.0, 2.7, StrokeKind::Middle, PLAIN)?;
+    print_in(&rt, &CORNER, 1.0, 0.0, StrokeKind::Inside, PLAIN)?;
+    print_in(&rt, &DOUBLED, 1.0, 4.0, StrokeKind::Middle, SCALE)?;
+    print_in(&rt, &CORNER, 2.0, 1.5, StrokeKind::Outside, SCALE)?;
+    print_in(&rt, &SHARP, 0.0, 2.5, StrokeKind::Inside, SCALE)?;
+    print_in(&rt, &CORNER, 1.0, 2.0, StrokeKind::Inside, CLEAR)
 }

@@ -10,13 +10,6 @@ use path::point::PathPoint;
 use std::num::nearest_u32_to_f32;
 use std::time::Instant;
 
-const ORIGIN: Pos2 = Pos2 { x: 0.0, y: 0.0 };
-
-const NO_POINT: PathPoint = PathPoint {
-    pos: ORIGIN,
-    normal: Vec2::ZERO,
-};
-
 const CENTER: Pos2 = Pos2 { x: 5.0, y: 6.0 };
 
 const LENGTHS: [u16; 3] = [4, 128, 1000];
@@ -93,7 +86,7 @@ fn measure(
     figure: Figure,
     places: &[Pos2],
 ) -> anyhow::Result<()> {
-    let mut points = [NO_POINT; 2000];
+    let mut points = [PathPoint::default(); 2000];
     let mut path = Path::new(&mut points);
     let tenths = least_time(rt, &mut path, figure, places)?;
     let count = path.as_slice().len();

@@ -13,52 +13,29 @@ use path::fault::PathFault;
 use path::path::Path;
 use path::places::Places;
 use path::point::PathPoint;
-use std::num::f32_to_bits_with_nan;
+use printed::{Bits, Printed};
+use std::fmt;
 
-const ORIGIN: Pos2 = Pos2 { x: 0.0, y: 0.0 };
-
-const NO_POINT: PathPoint = PathPoint {
-    pos: ORIGIN,
-    normal: Vec2::ZERO,
-};
-
-trait Printed {
-    fn print(&self, rt: &HostRuntime) -> anyhow::Result<()>;
-}
-
-impl Printed for PathPoint {
-    fn print(&self, rt: &HostRuntime) -> anyhow::Result<()> {
-        let x = f32_to_bits_with_nan(self.pos.x);
-        let y = f32_to_bits_with_nan(self.pos.y);
-        let nx = f32_to_bits_with_nan(self.normal.x);
-        let ny = f32_to_bits_with_nan(self.normal.y);
-        println!(rt; "  point {x:08x} {y:08x} normal {nx:08x} {ny:08x}")?;
-        Ok(())
-    }
-}
-
-impl Printed for Pos2 {
-    fn print(&self, rt: &HostRuntime) -> anyhow::Result<()> {
-        let x = f32_to_bits_with_nan(self.x);
-        let y = f32_to_bits_with_nan(self.y);
-        println!(rt; "  place {x:08x} {y:08x}")?;
-        Ok(())
-    }
-}
-
-fn print_all<T: Printed>(rt: &HostRuntime, items: &[T]) -> anyhow::Result<()> {
+/// A line for each of them.
+fn print_all<T: Copy>(rt: &HostRuntime, items: &[T]) -> anyhow::Result<()>
+where
+    Printed<T>: fmt::Display,
+{
     for item in items {
-        item.print(rt)?;
+        println!(rt; "  {}", Printed(*item))?;
     }
     Ok(())
 }
 
 /// The first, the second, the middle one and the last.
-fn print_few<T: Printed>(rt: &HostRuntime, items: &[T]) -> anyhow::Result<()> {
+fn print_few<T: Copy>(rt: &HostRuntime, items: &[T]) -> anyhow::Result<()>
+where
+    Printed<T>: fmt::Display,
+{
     let count = items.len();
     for i in [0, 1, count / 2, count.saturating_sub(1)] {
         if let Some(item) = items.get(i) {
-            item.print(rt)?;
+            println!(rt; "  {}", Printed(*item))?;
         }
     }
     Ok(())
@@ -72,12 +49,12 @@ fn accepted(answer: Result<(), PathFault>) -> anyhow::Result<()> {
 }
 
 fn print_circle(rt: &HostRuntime, radius: f32, whole: bool) -> anyhow::Result<()> {
-    let mut points = [NO_POINT; 129];
+    let mut points = [PathPoint::default(); 129];
     let mut path = Path::new(&mut points);
     accepted(path.add_circle(CENTER, radius))?;
     let count = path.as_slice().len();
-    let bits = f32_to_bits_with_nan(radius);
-    println!(rt; "circle, radius {bits:08x}: {count} points")?;
+    let bits = Bits(radius);
+    println!(rt; "circle, radius {bits}: {count} points")?;
     if whole {
         print_all(rt, path.as_slice())
     } else {
@@ -87,7 +64,7 @@ fn print_circle(rt: &HostRuntime, radius: f32, whole: bool) -> anyhow::Result<()
 
 fn print_segment(rt: &HostRuntime, ends: [Pos2; 2]) -> anyhow::Result<()> {
     let [a, b] = ends;
-    let mut points = [NO_POINT; 2];
+    let mut points = [PathPoint::default(); 2];
     let mut path = Path::new(&mut points);
     accepted(path.add_line_segment(a, b))?;
     println!(rt; "segment: 2 points")?;
@@ -96,7 +73,7 @@ fn print_segment(rt: &HostRuntime, ends: [Pos2; 2]) -> anyhow::Result<()> {
 
 fn print_line(rt: &HostRuntime, line: Line) -> anyhow::Result<()> {
     let name = line.name;
-    let mut points = [NO_POINT; 12];
+    let mut points = [PathPoint::default(); 12];
     let mut path = Path::new(&mut points);
     accepted(path.add_open_points(line.places))?;
     let count = path.as_slice().len();
@@ -106,7 +83,7 @@ fn print_line(rt: &HostRuntime, line: Line) -> anyhow::Result<()> {
 
 fn print_loop(rt: &HostRuntime, line: Line) -> anyhow::Result<()> {
     let name = line.name;
-    let mut points = [NO_POINT; 6];
+    let mut points = [PathPoint::default(); 6];
     let mut path = Path::new(&mut points);
     accepted(path.add_line_loop(line.places))?;
     let count = path.as_slice().len();
@@ -116,13 +93,13 @@ fn print_loop(rt: &HostRuntime, line: Line) -> anyhow::Result<()> {
 
 /// What one builder after another leaves in a path, each behind what was there.
 fn print_one_after_another(rt: &HostRuntime) -> anyhow::Result<()> {
-    let mut points = [NO_POINT; 9];
+    let mut points = [PathPoint::default(); 9];
     let mut path = Path::new(&mut points);
-    accepted(path.add_line_segment(CENTER, ORIGIN))?;
+    accepted(path.add_line_segment(CENTER, Pos2::default()))?;
     path.clear();
     accepted(path.add_point(CENTER, Vec2 { x: 0.6, y: -0.8 }))?;
     accepted(path.add_open_points(&RIGHT_ANGLE))?;
-    accepted(path.add_line_segment(CENTER, ORIGIN))?;
+    accepted(path.add_line_segment(CENTER, Pos2::default()))?;
     accepted(path.add_line_loop(&RIGHT_ANGLE))?;
     let count = path.as_slice().len();
     println!(rt; "one after another: {count} points")?;
@@ -130,14 +107,14 @@ fn print_one_after_another(rt: &HostRuntime) -> anyhow::Result<()> {
 }
 
 fn print_quadrants(rt: &HostRuntime, radius: f32, whole: bool) -> anyhow::Result<()> {
-    let bits = f32_to_bits_with_nan(radius);
-    let mut memory = [ORIGIN; 33];
+    let bits = Bits(radius);
+    let mut memory = [Pos2::default(); 33];
     let mut places = Places::new(&mut memory);
     for quadrant in 0u8..4 {
         places.clear();
         accepted(places.add_circle_quadrant(CENTER, radius, quadrant))?;
         let count = places.as_slice().len();
-        println!(rt; "quadrant {quadrant}, radius {bits:08x}: {count} places")?;
+        println!(rt; "quadrant {quadrant}, radius {bits}: {count} places")?;
         if whole {
             print_all(rt, places.as_slice())?;
         } else {
@@ -149,14 +126,14 @@ fn print_quadrants(rt: &HostRuntime, radius: f32, whole: bool) -> anyhow::Result
 
 /// How many places the four quadrants have together.
 fn print_quadrant_count(rt: &HostRuntime, radius: f32) -> anyhow::Result<()> {
-    let bits = f32_to_bits_with_nan(radius);
-    let mut memory = [ORIGIN; 132];
+    let bits = Bits(radius);
+    let mut memory = [Pos2::default(); 132];
     let mut places = Places::new(&mut memory);
     for quadrant in 0u8..4 {
         accepted(places.add_circle_quadrant(CENTER, radius, quadrant))?;
     }
     let count = places.as_slice().len();
-    println!(rt; "quadrants, radius {bits:08x}: {count} places")?;
+    println!(rt; "quadrants, radius {bits}: {count} places")?;
     Ok(())
 }
 
@@ -175,7 +152,7 @@ fn radii_of(radii: [f32; 4]) -> CornerRadiusF32 {
 
 fn print_rounded(rt: &HostRuntime, rounded: Rounded, whole: bool) -> anyhow::Result<()> {
     let name = rounded.name;
-    let mut memory = [ORIGIN; 132];
+    let mut memory = [Pos2::default(); 132];
     let mut places = Places::new(&mut memory);
     accepted(places.rounded_rectangle(rect_of(rounded.sides), radii_of(rounded.radii)))?;
     let count = places.as_slice().len();
@@ -189,8 +166,8 @@ fn print_rounded(rt: &HostRuntime, rounded: Rounded, whole: bool) -> anyhow::Res
 
 /// A rounded rectangle in place of a quadrant, and the loop over it.
 fn print_loop_of_rounded(rt: &HostRuntime) -> anyhow::Result<()> {
-    let mut memory = [ORIGIN; 32];
-    let mut points = [NO_POINT; 32];
+    let mut memory = [Pos2::default(); 32];
+    let mut points = [PathPoint::default(); 32];
     let mut places = Places::new(&mut memory);
     let mut path = Path::new(&mut points);
     accepted(places.add_circle_quadrant(CENTER, 1.5, 2))?;
