@@ -7,7 +7,7 @@ use cutting::part::Part;
 use ecolor::color::Color32;
 use ecolor::rule::Solid;
 use ecolor::vertex::{TextureId, Vertex};
-use emath::plane::{Pos2, Vec2};
+use emath::plane::Pos2;
 use path::path::Path;
 use path::point::PathPoint;
 use tessellator::finished::Finished;

@@ -2,9 +2,8 @@
 #![tactic(auto)]
 
 use drawing_file::runner::Runner;
-use ecolor::color::Color32;
 use ecolor::vertex::{TextureId, Vertex};
-use emath::plane::{Pos2, Vec2};
+use emath::plane::Pos2;
 use path::path::Path;
 use path::point::PathPoint;
 use tessellator::mesh::Mesh;

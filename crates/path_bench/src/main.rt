@@ -3,7 +3,7 @@
 #![tactic(auto)]
 
 use anyhow::anyhow;
-use emath::plane::{Pos2, Vec2};
+use emath::plane::Pos2;
 use path::fault::PathFault;
 use path::path::Path;
 use path::point::PathPoint;
