@@ -66,9 +66,12 @@ rounded_length r k = which (no_radii k)
     which true = refl
     which false = joined_length (corners_of r k)
 
--- without a radius an arc that drops its last place has none
+-- without a radius an arc has its centre, or no place if it drops its last
 pub no_places : (a : Arc) → le a.circle.radius plane.zero ≡ true → a.drops_last ≡ true → arc_places a ≡ []
 no_places a e d = simp (e, d) refl
+
+pub one_place : (a : Arc) → le a.circle.radius plane.zero ≡ true → a.drops_last ≡ false → arc_places a ≡ a.circle.center ∷ []
+one_place a e d = simp (e, d) refl
 
 -- ---- an arc with a radius is a part of its circle, cut as the code cuts it
 

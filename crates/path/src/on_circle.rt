@@ -1,11 +1,14 @@
 //! What stands on a circle: path points, or places alone.
-ghost use Rattle.std.specs.Prelude.{◌≡◌, Float};
+ghost use Rattle.std.specs.Prelude.{◌≡◌, ◌≤◌, map, length, Float};
 ghost use Rattle.emath.specs.declared.plane.Pos2.{Pos2};
 ghost use Rattle.emath.specs.declared.plane.Vec2.{Vec2};
 ghost use Rattle.path.specs.Circling.{place_on, point_on};
+ghost use Rattle.slice_vec.specs.Held.{held, extended, room};
 
 use crate::point::PathPoint;
+use crate::space::MAX_ITEMS;
 use emath::plane::*;
+use slice_vec::SliceVec;
 
 #[derive(Clone, Copy)]
 pub(crate) struct Circle {
@@ -37,5 +40,19 @@ impl OnCircle for PathPoint {
             pos: Pos2::on_circle(circle, direction),
             normal: direction,
         }
+    }
+}
+
+/// Extends a list by what stands on a circle.
+pub(crate) fn push_on_circle<T: OnCircle>(
+    list: &mut SliceVec<T, MAX_ITEMS>,
+    circle: Circle,
+    directions: &[Vec2],
+)
+    requires { length directions.now ≤ room 1048576 (held list.old) }
+    ensures { held list.new ≡ extended (held list.old) (map (T.standing circle.center circle.radius) directions.now) }
+{
+    for direction in directions {
+        list.push(T::on_circle(circle, *direction));
     }
 }
