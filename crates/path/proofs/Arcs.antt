@@ -118,6 +118,3 @@ module _ (a : Arc) (ns : List Vec2) (at n : ℕ) (numbered : at ≡ number_of a.
       ∙ ap (λ l. map f (take m (drop (at * k) l))) is
       ∙ ap (λ q. map f (take m (drop (q * k) (circle a.circle.radius)))) numbered
       ∙ sym (simp e (part a.circle.center a.circle.radius (number_of a.quadrant) (number_few a.quadrant) a.drops_last))
-
-  pub cut_length : length (take (at * (length ns / 4) + n - at * (length ns / 4)) (drop (at * (length ns / 4)) ns)) ≡ length (arc_places a)
-  cut_length = sym (length-map _ (place_on a.circle.center a.circle.radius)) ∙ ap length cut_is

@@ -3,7 +3,7 @@
 
 ghost use Rattle.std.specs.Prelude.{◌≡◌, ◌≤◌, ◌==◌, [], ◌∷◌, length, reverse};
 
-pub mod change;
+pub mod map;
 
 /// At most `MAX` items. Only the first `len` places of the memory are in use.
 #[derive(Drop)]

@@ -10,7 +10,7 @@ use super::Path;
 use crate::fault::PathFault;
 use crate::line;
 use crate::line::{Corner, Turn};
-use crate::on_circle::{Circle, push_on_circle};
+use crate::on_circle::Circle;
 use crate::point::PathPoint;
 use crate::space::check_space;
 use circles::circle_for;
@@ -41,7 +41,8 @@ impl<'a> Path<'a> {
         }
         let directions = circle_for(radius);
         check_space(directions.len(), self.points.space())?;
-        push_on_circle(&mut self.points, Circle { center, radius }, directions);
+        self.points
+            .extend_by(directions, &Circle { center, radius });
         Ok(())
     }
 

@@ -5,13 +5,13 @@ ghost use Rattle.path.specs.Points.{moved};
 
 use super::Path;
 use crate::point::{PathPoint, Side};
-use slice_vec::change::Change;
+use slice_vec::map::Map;
 
-impl Change<PathPoint> for Side {
-    ghost changed = { moved };
+impl Map<PathPoint, PathPoint> for Side {
+    ghost image = { moved };
 
-    fn changed(&self, item: PathPoint) -> PathPoint {
-        item.moved(*self)
+    fn image(&self, source: PathPoint) -> PathPoint {
+        source.moved(*self)
     }
 }
 

@@ -6,7 +6,7 @@ ghost use Rattle.path.specs.Turns as turns;
 use super::Path;
 use crate::point::PathPoint;
 use emath::plane::Pos2;
-use slice_vec::change::Change;
+use slice_vec::map::Map;
 
 fn wedge(a: Pos2, b: Pos2) -> f64
     ensures { result ≡ turns.wedge a b }
@@ -33,13 +33,13 @@ fn cw_signed_area(points: &[PathPoint]) -> f64
 /// The point with its normal negated.
 struct Flip;
 
-impl Change<PathPoint> for Flip {
-    ghost changed = { λ _ p. turns.flipped p };
+impl Map<PathPoint, PathPoint> for Flip {
+    ghost image = { λ _ p. turns.flipped p };
 
-    fn changed(&self, item: PathPoint) -> PathPoint {
+    fn image(&self, source: PathPoint) -> PathPoint {
         PathPoint {
-            pos: item.pos,
-            normal: -item.normal,
+            pos: source.pos,
+            normal: -source.normal,
         }
     }
 }

@@ -9,7 +9,7 @@ use super::Places;
 use crate::arc::{Arc, Corners, Quadrant, corners_of};
 use crate::corner_radius::CornerRadiusF32;
 use crate::fault::PathFault;
-use crate::on_circle::{Circle, push_on_circle};
+use crate::on_circle::Circle;
 use crate::space::check_space;
 use circles::circle_for;
 use emath::limits::{is_distance, is_place};
@@ -54,7 +54,7 @@ impl<'a> Places<'a> {
         let directions = circle_for(circle.radius);
         let first = arc.quadrant.number() * (directions.len() / 4);
         let end = first + arc.count();
-        push_on_circle(&mut self.places, circle, &directions[first..end]);
+        self.places.extend_by(&directions[first..end], &circle);
     }
 
     /// A rectangle with rounded corners, in place of what the list had.

@@ -1,6 +1,0 @@
-use Rattle.std.proofs.Common.{◌≡◌, ◌++◌, map, take, drop}
-use Rattle.slice_vec.proofs.change.change_each.Given as goal
-
--- the items before the index are changed
-abbrev pub invariant-loop-item : goal.invariant-loop-item
-invariant-loop-item g l = l.items ≡ map (g.C.Change.changed l.change) (take l.item-index l.fn.items) ++ drop l.item-index l.fn.items
