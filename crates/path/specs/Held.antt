@@ -2,11 +2,14 @@
 use Rattle.std.specs.Prelude.{ℕ}
 use Rattle.slice_vec.specs.Held as list
 use Rattle.emath.specs.declared.plane.Pos2.{Pos2}
+use Rattle.path.specs.declared.path.Path.{Path as Points}
 use Rattle.path.specs.declared.places.Places.{Places}
 use Rattle.path.specs.declared.point.PathPoint.{PathPoint}
-pub use Rattle.path.specs.declared.path.Path.{Path}
 pub use Rattle.slice_vec.specs.Held.{Held, empty_in, emptied, rewritten}
 unfoldable pub use Rattle.slice_vec.specs.Held.{extended}
+
+abbrev pub Path : Type 0
+Path = Points
 
 abbrev pub held : Path → Held PathPoint
 held p = list.held p.points
