@@ -66,9 +66,12 @@ rounded_length r k = which (no_radii k)
     which true = refl
     which false = joined_length (corners_of r k)
 
--- without a radius an arc that drops its last place has none
+-- without a radius an arc has its centre, or no place if it drops its last
 pub no_places : (a : Arc) → le a.circle.radius plane.zero ≡ true → a.drops_last ≡ true → arc_places a ≡ []
 no_places a e d = simp (e, d) refl
+
+pub one_place : (a : Arc) → le a.circle.radius plane.zero ≡ true → a.drops_last ≡ false → arc_places a ≡ a.circle.center ∷ []
+one_place a e d = simp (e, d) refl
 
 -- ---- an arc with a radius is a part of its circle, cut as the code cuts it
 
@@ -115,6 +118,3 @@ module _ (a : Arc) (ns : List Vec2) (at n : ℕ) (numbered : at ≡ number_of a.
       ∙ ap (λ l. map f (take m (drop (at * k) l))) is
       ∙ ap (λ q. map f (take m (drop (q * k) (circle a.circle.radius)))) numbered
       ∙ sym (simp e (part a.circle.center a.circle.radius (number_of a.quadrant) (number_few a.quadrant) a.drops_last))
-
-  pub cut_length : length (take (at * (length ns / 4) + n - at * (length ns / 4)) (drop (at * (length ns / 4)) ns)) ≡ length (arc_places a)
-  cut_length = sym (length-map _ (place_on a.circle.center a.circle.radius)) ∙ ap length cut_is

@@ -1,7 +1,8 @@
 -- The points of open lines.
 use Rattle.std.proofs.Common.{◌≡◌, ◌+◌, ◌-◌, ◌*◌, ◌≤◌, List, [], ◌∷◌, ◌++◌, length, get_or, take, drop, sym, refl, ap, ◌∙◌, subst, arith, length-append}
 use Rattle.std.proofs.lemmas.List.{take_all}
-use Rattle.path.specs.Held.{Held, extended, room}
+use Rattle.slice_vec.specs.Held.{Held, extended, pushed}
+use Rattle.path.specs.Held.{room}
 use Rattle.path.specs.Laws.{Along, done, once, twice}
 use Rattle.path.specs.Lines.{point, corner_count, corner_points, turn_of, edge_normal, open_corners, open_points}
 use Rattle.path.specs.declared.point.PathPoint.{PathPoint}
@@ -10,7 +11,7 @@ use Rattle.emath.specs.declared.plane.Vec2.{Vec2}
 use Rattle.path.specs.declared.line.Corner.{Corner}
 use Rattle.path.specs.declared.line.Corner.TheVariants.{Mitre, Cut}
 use Rattle.path.specs.declared.line.Turn.{Turn}
-use Rattle.path.proofs.Growing.{Growing, begins, has_room, goes_on, extended_then}
+use Rattle.path.proofs.Growing.{Growing, begins, has_room, goes_on, goes_on_by, extended_then, put}
 
 corner_length : (p : Pos2) (k : Corner) → length (corner_points p k) ≡ corner_count k
 corner_length p (Mitre n) = refl
@@ -86,14 +87,14 @@ module _ {start : Held PathPoint} {all : List PathPoint} {at : Held PathPoint} (
 
 -- the first point, and the corners after it
 module _ (start at : Held PathPoint) (p q : Pos2) (qs : List Pos2) (m : Vec2) (em : m ≡ edge_normal p q) where
-  pub open_begins : length (open_points (p ∷ q ∷ qs)) ≤ room start → at ≡ extended start (point p m ∷ []) → Growing at (open_corners m m q qs) at (open_corners m m q qs)
+  pub open_begins : length (open_points (p ∷ q ∷ qs)) ≤ room start → at ≡ pushed 1048576 start (point p m ∷ []) → Growing at (open_corners m m q qs) at (open_corners m m q qs)
   open_begins f =
-      subst (λ (k : Vec2). at ≡ extended start (point p k ∷ []) → Growing at (open_corners k k q qs) at (open_corners k k q qs)) (sym em)
-      (λ e. begins at _ (goes_on (_ ∷ []) _ at (begins start (open_points (p ∷ q ∷ qs)) f) e).fit)
+      subst (λ (k : Vec2). at ≡ pushed 1048576 start (point p k ∷ []) → Growing at (open_corners k k q qs) at (open_corners k k q qs)) (sym em)
+      (λ e. begins at _ (goes_on_by _ _ at (begins start (open_points (p ∷ q ∷ qs)) f) e).fit)
 
-  pub open_ends : (final : Held PathPoint) → at ≡ extended start (point p m ∷ []) → final ≡ extended at (open_corners m m q qs) → final ≡ extended start (open_points (p ∷ q ∷ qs))
-  open_ends final e last =
-      last ∙ ap (λ h. extended h (open_corners m m q qs)) e ∙ extended_then start (point p m ∷ []) (open_corners m m q qs)
+  pub open_ends : (final : Held PathPoint) → length (open_points (p ∷ q ∷ qs)) ≤ room start → at ≡ pushed 1048576 start (point p m ∷ []) → final ≡ extended at (open_corners m m q qs) → final ≡ extended start (open_points (p ∷ q ∷ qs))
+  open_ends final f e last =
+      last ∙ ap (λ h. extended h (open_corners m m q qs)) (put start at (point p m ∷ []) (omega (arith, f)) e) ∙ extended_then start (point p m ∷ []) (open_corners m m q qs)
       ∙ ap (λ k. extended start (point p k ∷ open_corners k k q qs)) em
 
 -- a line of two places and more, cut as the code cuts it

@@ -3,6 +3,7 @@ use Rattle.std.proofs.Common.{◌≡◌, ℕ, ◌≤◌, Bool, true, false, cond
 use Rattle.std.proofs.lemmas.Bool.{cond-true, cond-false, le-leb, leb-true}
 use Rattle.emath.specs.Answers.{Answer, accepted}
 use Rattle.path.specs.Builders.{Change, unchanged, put_behind, added, replaced, reserved}
+use Rattle.slice_vec.specs.Held as list
 use Rattle.path.specs.Held.{Held, emptied, extended, room}
 use Rattle.path.specs.Laws.{Same, Keeps}
 use Rattle.path.specs.declared.fault.PathFault.{PathFault}
@@ -64,11 +65,11 @@ module _ {X : Type 0} (from : Held X → Held X) (begins : (h k : Held X) → k.
 
 module _ {X : Type 0} (h k : Held X) (same : k.used ≡ h.used) (more : length h.unused ≤ length k.unused) where
   behind_used : Begins (λ h. h) h k
-  unfolding room
+  unfolding list.room
   behind_used = record { same = same; more = omega (arith, ap length same) }
 
   at_front : Begins emptied h k
-  unfolding room
+  unfolding list.room
   at_front = record { same = refl; more = simp length-append (omega (arith, ap length same)) }
 
 module _ {X : Type 0} (Kind : List X → Type 0) (what : Result (List X) PathFault) (xs : List X) (is : what ≡ Ok xs) (kind : Kind xs) (h : Held X) (answer : Answer (Unit {0})) (after : Held X) where

@@ -3,12 +3,12 @@ use Rattle.std.proofs.Common.{◌≡◌, suc, ◌+◌, ◌-◌, ◌≤◌, List,
 use Rattle.std.proofs.lemmas.List.{take_all}
 use Rattle.emath.specs.declared.plane.Pos2.{Pos2}
 use Rattle.emath.specs.declared.plane.Vec2.{Vec2}
-use Rattle.path.specs.Held.{Held, extended}
+use Rattle.slice_vec.specs.Held.{Held, extended, pushed}
 use Rattle.path.specs.Laws.{At}
 use Rattle.path.specs.Lines.{point, edge_normal, bend_of, loop_corners, last_of, loop_points}
 use Rattle.path.specs.declared.line.Turn.{Turn}
 use Rattle.path.specs.declared.point.PathPoint.{PathPoint}
-use Rattle.path.proofs.Growing.{Growing, goes_on, ends}
+use Rattle.path.proofs.Growing.{Growing, goes_on_by, ends}
 
 corners_at : (closing n : Vec2) (p : Pos2) (qs : List Pos2) → At (p ∷ qs) (loop_corners closing n p qs)
 corners_at closing n p [] = refl
@@ -43,13 +43,13 @@ in_parts (p ∷ qs) d h =
 module _ {start : Held PathPoint} {all : List PathPoint} {at : Held PathPoint} (closing n : Vec2) (p : Pos2) (b : Turn Vec2) where
   -- one corner
   pub bend_goes_on : (q : Pos2) (qs : List Pos2) (m : Vec2) (next : Held PathPoint) → m ≡ edge_normal p q → b ≡ bend_of n m →
-      Growing start all at (loop_corners closing n p (q ∷ qs)) → next ≡ extended at (point p b.joint ∷ []) → Growing start all next (loop_corners closing b.normal q qs)
+      Growing start all at (loop_corners closing n p (q ∷ qs)) → next ≡ pushed 1048576 at (point p b.joint ∷ []) → Growing start all next (loop_corners closing b.normal q qs)
   bend_goes_on q qs m next em eb w =
-      subst (λ (v : Turn Vec2). next ≡ extended at (point p v.joint ∷ []) → Growing start all next (loop_corners closing v.normal q qs)) (sym (eb ∙ ap (bend_of n) em))
-      (λ e. goes_on (_ ∷ []) _ next w e)
+      subst (λ (v : Turn Vec2). next ≡ pushed 1048576 at (point p v.joint ∷ []) → Growing start all next (loop_corners closing v.normal q qs)) (sym (eb ∙ ap (bend_of n) em))
+      (λ e. goes_on_by _ _ next w e)
 
   -- the last one
-  pub bend_ends : (next : Held PathPoint) → b ≡ bend_of n closing → Growing start all at (loop_corners closing n p []) → next ≡ extended at (point p b.joint ∷ []) → next ≡ extended start all
+  pub bend_ends : (next : Held PathPoint) → b ≡ bend_of n closing → Growing start all at (loop_corners closing n p []) → next ≡ pushed 1048576 at (point p b.joint ∷ []) → next ≡ extended start all
   bend_ends next eb w =
-      subst (λ (v : Turn Vec2). next ≡ extended at (point p v.joint ∷ []) → next ≡ extended start all) (sym eb)
-      (λ e. ends (goes_on (_ ∷ []) [] next w e))
+      subst (λ (v : Turn Vec2). next ≡ pushed 1048576 at (point p v.joint ∷ []) → next ≡ extended start all) (sym eb)
+      (λ e. ends (goes_on_by _ [] next w e))

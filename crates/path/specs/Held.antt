@@ -1,38 +1,22 @@
--- A list in lent memory: what is in use, and the rest of the memory as it stands.
-use Rattle.std.specs.Prelude.{ℕ, ◌-◌, min, List, [], ◌++◌, length, take, drop}
+-- What a path and a list of places hold, in memory that is lent: at most 1,048,576 items.
+use Rattle.std.specs.Prelude.{ℕ}
+use Rattle.slice_vec.specs.Held as list
+use Rattle.emath.specs.declared.plane.Pos2.{Pos2}
+use Rattle.path.specs.declared.path.Path.{Path as Points}
+use Rattle.path.specs.declared.places.Places.{Places}
 use Rattle.path.specs.declared.point.PathPoint.{PathPoint}
-use Rattle.path.specs.declared.slice_vec.SliceVec.{SliceVec}
+pub use Rattle.slice_vec.specs.Held.{Held, empty_in, emptied, rewritten}
+unfoldable pub use Rattle.slice_vec.specs.Held.{extended}
 
-pub record Held (X : Type 0) : Type 0 where
-  pub used : List X
-  pub unused : List X
-
--- the first n places of the memory are in use
-abbrev pub held_in : {X : Type 0} → ℕ → List X → Held X
-held_in n memory = record { used = take n memory; unused = drop n memory }
-
--- none of it is
-abbrev pub empty_in : {X : Type 0} → List X → Held X
-empty_in memory = record { used = []; unused = memory }
-
-abbrev pub emptied : {X : Type 0} → Held X → Held X
-emptied h = empty_in (h.used ++ h.unused)
-
--- more behind what is there
-unfoldable pub extended : {X : Type 0} → Held X → List X → Held X
-extended h xs = record { used = h.used ++ xs; unused = drop (length xs) h.unused }
-
--- in place of what is there, as many
-abbrev pub rewritten : {X : Type 0} → Held X → List X → Held X
-rewritten h xs = record { used = xs; unused = h.unused }
-
--- The space left: at most 1,048,576 are held.
-unfoldable pub room : {X : Type 0} → Held X → ℕ
-room h = min (1048576 - length h.used) (length h.unused)
-
-abbrev pub held : {X : Type 0} → SliceVec X → Held X
-held s = held_in s.len s.items.now
-
--- a path is such a list of points
 abbrev pub Path : Type 0
-Path = SliceVec PathPoint
+Path = Points
+
+abbrev pub held : Path → Held PathPoint
+held p = list.held p.points
+
+abbrev pub held_places : Places → Held Pos2
+held_places p = list.held p.places
+
+-- the space left
+abbrev pub room : {X : Type 0} → Held X → ℕ
+room h = list.room 1048576 h

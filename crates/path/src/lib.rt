@@ -9,4 +9,4 @@ mod on_circle;
 pub mod path;
 pub mod places;
 pub mod point;
-pub mod slice_vec;
+mod space;

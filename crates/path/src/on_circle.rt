@@ -1,11 +1,9 @@
 //! What stands on a circle: path points, or places alone.
-ghost use Rattle.std.specs.Prelude.{◌≡◌, Float};
-ghost use Rattle.emath.specs.declared.plane.Pos2.{Pos2};
-ghost use Rattle.emath.specs.declared.plane.Vec2.{Vec2};
 ghost use Rattle.path.specs.Circling.{place_on, point_on};
 
 use crate::point::PathPoint;
 use emath::plane::*;
+use slice_vec::map::Map;
 
 #[derive(Clone, Copy)]
 pub(crate) struct Circle {
@@ -13,29 +11,23 @@ pub(crate) struct Circle {
     pub(crate) radius: f32,
 }
 
-pub(crate) trait OnCircle: Copy {
-    ghost standing: { Pos2 → Float → Vec2 → Self };
+/// The place in a direction from the center.
+impl Map<Vec2, Pos2> for Circle {
+    ghost image = { λ c. place_on c.center c.radius };
 
-    /// What stands in a direction from the center.
-    fn on_circle(circle: Circle, direction: Vec2) -> Self
-        ensures { result ≡ standing circle.center circle.radius direction };
-}
-
-impl OnCircle for Pos2 {
-    ghost standing = { place_on };
-
-    fn on_circle(circle: Circle, direction: Vec2) -> Pos2 {
-        circle.center + circle.radius * direction
+    fn image(&self, source: Vec2) -> Pos2 {
+        self.center + self.radius * source
     }
 }
 
-impl OnCircle for PathPoint {
-    ghost standing = { point_on };
+/// The same with the direction as its normal.
+impl Map<Vec2, PathPoint> for Circle {
+    ghost image = { λ c. point_on c.center c.radius };
 
-    fn on_circle(circle: Circle, direction: Vec2) -> PathPoint {
+    fn image(&self, source: Vec2) -> PathPoint {
         PathPoint {
-            pos: Pos2::on_circle(circle, direction),
-            normal: direction,
+            pos: self.image(source),
+            normal: source,
         }
     }
 }

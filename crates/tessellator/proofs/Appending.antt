@@ -7,21 +7,6 @@ use Rattle.tessellator.specs.declared.fault.Appended.{Appended}
 use Rattle.tessellator.specs.declared.mesh.Mesh.{Mesh}
 use Rattle.tessellator.proofs.Triples.{length-triples}
 
--- three indices to a triangle, and each names a vertex
-pub threes : (m : Mesh) → length (mesh_state m).indices % 3 ≡ 0
-threes m = omega (arith, length-take m.index_count m.indices.now, m.indices_fit, m.triangles)
-
-pub names_vertices : (m : Mesh) (k : ℕ) → k < length (mesh_state m).indices → get_or (mesh_state m).indices k 0 < length (mesh_state m).vertices
-names_vertices m k h =
-    let below : k < m.index_count = omega (arith, length-take m.index_count m.indices.now) in
-    omega (arith, get_or-take m.index_count m.indices.now k 0 below, m.named k below, length-take m.vertex_count m.vertices.now, m.vertices_fit)
-
-pub size_is : (m : Mesh) → ◌≡◌ {A = Appended} (record { vertices = m.vertex_count; indices = m.index_count }) (record { vertices = length (mesh_state m).vertices; indices = length (mesh_state m).indices })
-size_is m =
-    let v : m.vertex_count ≡ length (mesh_state m).vertices = omega (arith, length-take m.vertex_count m.vertices.now, m.vertices_fit) in
-    let i : m.index_count ≡ length (mesh_state m).indices = omega (arith, length-take m.index_count m.indices.now, m.indices_fit) in
-    cc
-
 raised_flat : (b : ℕ) (is : List ℕ) → length is % 3 ≡ 0 → flat (raised b (triples is)) ≡ map (λ i. b + i) is
 raised_flat b [] h = refl
 raised_flat b (x ∷ []) h = absurd (omega arith)

@@ -1,5 +1,6 @@
 -- What a mesh holds: what is in use, and the rest of the lent memory as it stands.
-use Rattle.std.specs.Prelude.{ℕ, ◌+◌, ◌-◌, ◌*◌, min, Bool, List, [], ◌++◌, map, length, take, drop, ◌==◌}
+use Rattle.std.specs.Prelude.{ℕ, ◌+◌, ◌-◌, ◌*◌, min, Bool, List, [], ◌++◌, map, length, drop, ◌==◌}
+use Rattle.slice_vec.specs.Held.{held}
 use Rattle.tessellator.specs.Triangles.{Triangle, flat, raised}
 use Rattle.tessellator.specs.declared.finished.Finished.{Finished}
 use Rattle.tessellator.specs.declared.mesh.Mesh.{Mesh}
@@ -13,21 +14,17 @@ pub record MeshState : Type 0 where
   pub unused_indices : List ℕ
   pub texture : TextureId
 
--- so many vertices and indices of the memory are in use
-abbrev pub held_in : ℕ → List Vertex → ℕ → List ℕ → TextureId → MeshState
-held_in v vertices i indices texture = record {
-  vertices = take v vertices;
-  unused_vertices = drop v vertices;
-  indices = take i indices;
-  unused_indices = drop i indices;
-  texture = texture;
+abbrev pub mesh_state : Mesh → MeshState
+mesh_state m = record {
+  vertices = (held m.vertices).used;
+  unused_vertices = (held m.vertices).unused;
+  indices = (held m.indices).used;
+  unused_indices = (held m.indices).unused;
+  texture = m.texture_id;
 }
 
-abbrev pub mesh_state : Mesh → MeshState
-mesh_state m = held_in m.vertex_count m.vertices.now m.index_count m.indices.now m.texture_id
-
 abbrev pub finished_state : Finished → MeshState
-finished_state m = held_in m.vertex_count m.vertices.now m.index_count m.indices.now m.texture_id
+finished_state f = mesh_state f.mesh
 
 -- a mesh made in lent memory
 abbrev pub empty_mesh : List Vertex → List ℕ → TextureId → MeshState

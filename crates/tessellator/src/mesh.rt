@@ -1,7 +1,9 @@
 //! A mesh: triangles in memory that the caller lends.
-ghost use Rattle.std.specs.Prelude.{◌≡◌, ℕ, ◌%◌, ◌<◌, ◌≤◌, length, slice_index};
+ghost use Rattle.std.specs.Prelude.{◌≡◌, ℕ, ◌%◌, ◌<◌, length, slice_index};
+ghost use Rattle.slice_vec.specs.Held.{held};
 
 use ecolor::vertex::{TextureId, Vertex};
+use slice_vec::SliceVec;
 
 pub mod append;
 pub mod finish;
@@ -13,19 +15,16 @@ mod room;
 mod rows;
 mod triangles;
 
+const MAX_VERTICES: usize = 16_777_216;
+
+const MAX_INDICES: usize = 100_663_296;
+
 /// Vertices, and indices of which each three name the corners of a triangle.
-/// Only the first `vertex_count` and `index_count` places of the memory are in use.
 #[derive(Drop)]
 pub struct Mesh<'a> {
-    vertices: &'a mut [Vertex],
-    vertex_count: usize,
-    indices: &'a mut [u32],
-    index_count: usize,
+    vertices: SliceVec<'a, Vertex, MAX_VERTICES>,
+    indices: SliceVec<'a, u32, MAX_INDICES>,
     texture_id: TextureId,
-    ghost vertices_fit: { vertex_count ≤ length vertices.now },
-    ghost vertices_few: { vertex_count ≤ 16777216 },
-    ghost indices_fit: { index_count ≤ length indices.now },
-    ghost indices_few: { index_count ≤ 100663296 },
-    ghost triangles: { index_count % 3 ≡ 0 },
-    ghost named: { (k : ℕ) → k < index_count → slice_index indices.now k < vertex_count },
+    ghost triangles: { length (held indices).used % 3 ≡ 0 },
+    ghost named: { (k : ℕ) → k < length (held indices).used → slice_index (held indices).used k < length (held vertices).used },
 }

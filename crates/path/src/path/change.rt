@@ -5,12 +5,13 @@ ghost use Rattle.path.specs.Points.{moved};
 
 use super::Path;
 use crate::point::{PathPoint, Side};
+use slice_vec::map::Map;
 
-fn move_all(points: &mut [PathPoint], side: Side)
-    ensures { points.new ≡ map (moved side) points.old }
-{
-    for point in points.iter_mut() {
-        *point = point.moved(side);
+impl Map<PathPoint, PathPoint> for Side {
+    ghost image = { moved };
+
+    fn image(&self, source: PathPoint) -> PathPoint {
+        source.moved(*self)
     }
 }
 
@@ -19,6 +20,6 @@ impl<'a> Path<'a> {
     pub fn move_points(&mut self, side: Side)
         ensures { held self.new ≡ rewritten (held self.old) (map (moved side) (held self.old).used) }
     {
-        move_all(&mut self.items[..self.len], side);
+        self.points.change_all(&side);
     }
 }

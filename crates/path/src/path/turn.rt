@@ -1,11 +1,12 @@
 //! The winding of a path.
-ghost use Rattle.std.specs.Prelude.{◌≡◌, map, reverse};
+ghost use Rattle.std.specs.Prelude.{◌≡◌};
 ghost use Rattle.path.specs.Held.{held, rewritten};
 ghost use Rattle.path.specs.Turns as turns;
 
 use super::Path;
 use crate::point::PathPoint;
 use emath::plane::Pos2;
+use slice_vec::map::Map;
 
 fn wedge(a: Pos2, b: Pos2) -> f64
     ensures { result ≡ turns.wedge a b }
@@ -29,25 +30,17 @@ fn cw_signed_area(points: &[PathPoint]) -> f64
     area
 }
 
-impl PathPoint {
-    /// The point with its normal negated.
-    fn flipped(self) -> PathPoint
-        ensures { result ≡ turns.flipped self }
-    {
-        PathPoint {
-            pos: self.pos,
-            normal: -self.normal,
-        }
-    }
-}
+/// The point with its normal negated.
+struct Flip;
 
-/// The points in the other order, their normals negated.
-fn turn(points: &mut [PathPoint])
-    ensures { points.new ≡ map turns.flipped (reverse points.old) }
-{
-    points.reverse();
-    for point in points.iter_mut() {
-        *point = point.flipped();
+impl Map<PathPoint, PathPoint> for Flip {
+    ghost image = { λ _ p. turns.flipped p };
+
+    fn image(&self, source: PathPoint) -> PathPoint {
+        PathPoint {
+            pos: source.pos,
+            normal: -source.normal,
+        }
     }
 }
 
@@ -57,7 +50,8 @@ impl<'a> Path<'a> {
         ensures { held self.new ≡ rewritten (held self.old) (turns.turned (held self.old).used) }
     {
         if cw_signed_area(self.as_slice()) < 0.0 {
-            turn(&mut self.items[..self.len]);
+            self.points.reverse();
+            self.points.change_all(&Flip);
         }
     }
 }

@@ -10,19 +10,19 @@ impl<'a> Finished<'a> {
     pub fn vertices(&self) -> &[Vertex]
         ensures { result.now ≡ (finished_state self.now).vertices }
     {
-        &self.vertices[..self.vertex_count]
+        self.mesh.vertices()
     }
 
     /// The indices of the mesh.
     pub fn indices(&self) -> &[u32]
         ensures { result.now ≡ (finished_state self.now).indices }
     {
-        &self.indices[..self.index_count]
+        self.mesh.indices()
     }
 
     pub fn texture_id(&self) -> TextureId
         ensures { result ≡ (finished_state self.now).texture }
     {
-        self.texture_id
+        self.mesh.texture_id()
     }
 }

@@ -17,8 +17,8 @@ impl<'a> Mesh<'a> {
         ensures { joined_after result self.new ≡ joining (mesh_state other.now) (mesh_state self.old) }
     {
         let size = Appended {
-            vertices: other.vertex_count,
-            indices: other.index_count,
+            vertices: other.vertices.len(),
+            indices: other.indices.len(),
         };
         self.reserve_under(other.texture_id, size)?;
         let base = self.next_vertex();
@@ -63,9 +63,7 @@ impl<'a> Mesh<'a> {
         requires { length vertices.now ≤ vertex_room (mesh_state self.old) }
         ensures { mesh_state self.new ≡ with_vertices (mesh_state self.old) vertices.now }
     {
-        for vertex in vertices {
-            self.add_vertex(*vertex);
-        }
+        self.vertices.extend_from_slice(vertices);
     }
 
     /// The triangles that these indices name, counted from the vertex `base` on.

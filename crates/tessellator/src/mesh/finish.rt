@@ -10,19 +10,6 @@ impl<'a> Mesh<'a> {
     pub fn finish(self) -> Finished<'a>
         ensures { finished_state result ≡ mesh_state self.entry }
     {
-        let Mesh {
-            vertices,
-            vertex_count,
-            indices,
-            index_count,
-            texture_id,
-        } = self;
-        Finished {
-            vertices,
-            vertex_count,
-            indices,
-            index_count,
-            texture_id,
-        }
+        Finished { mesh: self }
     }
 }

@@ -11,8 +11,7 @@ impl<'a> Mesh<'a> {
         requires { 1 ≤ vertex_room (mesh_state self.old) }
         ensures { mesh_state self.new ≡ with_vertices (mesh_state self.old) (vertex ∷ []) }
     {
-        self.vertices[self.vertex_count] = vertex;
-        self.vertex_count += 1;
+        self.vertices.push(vertex);
     }
 
     /// The corners are counted from the vertex `base` on.
@@ -21,10 +20,7 @@ impl<'a> Mesh<'a> {
         requires named { (base + a < length (mesh_state self.old).vertices) × ((base + b < length (mesh_state self.old).vertices) × (base + c < length (mesh_state self.old).vertices)) }
         ensures { mesh_state self.new ≡ with_triangles base (mesh_state self.old) (tri a b c ∷ []) }
     {
-        let at = self.index_count;
-        self.indices[at] = base + a;
-        self.indices[at + 1] = base + b;
-        self.indices[at + 2] = base + c;
-        self.index_count = at + 3;
+        self.indices
+            .extend_from_slice(&[base + a, base + b, base + c]);
     }
 }

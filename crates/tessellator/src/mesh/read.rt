@@ -4,6 +4,7 @@ ghost use Rattle.tessellator.specs.State.{mesh_state, empty_mesh};
 
 use super::Mesh;
 use ecolor::vertex::{TextureId, Vertex};
+use slice_vec::SliceVec;
 
 impl<'a> Mesh<'a> {
     /// An empty mesh in lent memory.
@@ -15,10 +16,8 @@ impl<'a> Mesh<'a> {
         ensures { mesh_state result ≡ empty_mesh vertices.old indices.old texture_id }
     {
         Mesh {
-            vertices,
-            vertex_count: 0,
-            indices,
-            index_count: 0,
+            vertices: SliceVec::new(vertices),
+            indices: SliceVec::new(indices),
             texture_id,
         }
     }
@@ -27,14 +26,14 @@ impl<'a> Mesh<'a> {
     pub fn vertices(&self) -> &[Vertex]
         ensures { result.now ≡ (mesh_state self.now).vertices }
     {
-        &self.vertices[..self.vertex_count]
+        self.vertices.as_slice()
     }
 
     /// The indices in use.
     pub fn indices(&self) -> &[u32]
         ensures { result.now ≡ (mesh_state self.now).indices }
     {
-        &self.indices[..self.index_count]
+        self.indices.as_slice()
     }
 
     pub fn texture_id(&self) -> TextureId

@@ -7,28 +7,24 @@ use super::Mesh;
 use crate::fault::{Appended, FigureFault};
 use ecolor::vertex::TextureId;
 
-const MAX_VERTICES: usize = 16_777_216;
-
-const MAX_INDICES: usize = 100_663_296;
-
 impl<'a> Mesh<'a> {
     fn vertex_room(&self) -> usize
         ensures { result ≡ vertex_room (mesh_state self.now) }
     {
-        self.vertices.len().min(MAX_VERTICES) - self.vertex_count
+        self.vertices.space()
     }
 
     pub(super) fn index_room(&self) -> usize
         ensures { result ≡ index_room (mesh_state self.now) }
     {
-        self.indices.len().min(MAX_INDICES) - self.index_count
+        self.indices.space()
     }
 
     /// The number that the next vertex gets.
     pub(crate) fn next_vertex(&self) -> u32
         ensures { result ≡ length (mesh_state self.now).vertices }
     {
-        self.vertex_count as u32
+        self.vertices.len() as u32
     }
 
     /// Refuses what there is no space for.
@@ -62,7 +58,7 @@ impl<'a> Mesh<'a> {
     ) -> Result<(), FigureFault>
         ensures { result ≡ reserved_under texture_id size (mesh_state self.now) }
     {
-        if self.vertex_count != 0 && !self.texture_id.is_same(texture_id) {
+        if !self.vertices.is_empty() && !self.texture_id.is_same(texture_id) {
             return Err(FigureFault::OtherTexture);
         }
         self.reserve_space(size)

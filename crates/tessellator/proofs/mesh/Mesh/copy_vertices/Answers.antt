@@ -1,16 +1,14 @@
-use Rattle.std.proofs.Common.{arith, length-take}
-use Rattle.std.proofs.lemmas.List.{take_more, take_all}
-use Rattle.tessellator.proofs.Growth.{vertices_none, vertices_step, vertex_room_left}
+use Rattle.std.proofs.Common.{arith}
+use Rattle.slice_vec.specs.Held.{held}
+use Rattle.tessellator.specs.State.{mesh_state}
+use Rattle.tessellator.proofs.Writes.{vertices_put, more_vertices}
 use Rattle.tessellator.proofs.mesh.Mesh.copy_vertices.Goals as goal
 
-pub loop-vertex-init : goal.loop-vertex-init
-loop-vertex-init c = vertices_none _
-
-pub add_vertex-requires : goal.add_vertex-requires
-add_vertex-requires c = vertex_room_left _ _ _ c.loop-vertex.invariant 1 (simp length-take (omega arith))
-
-pub loop-vertex-preserved : goal.loop-vertex-preserved
-loop-vertex-preserved c = vertices_step _ _ _ _ _ _ c.loop-vertex.invariant c.add_vertex.ensures (take_more _ _ _ c.loop-vertex-test.true)
+pub invariant_of-self : goal.invariant_of-self
+invariant_of-self c =
+    let m = c.args.self.now in
+    let more = more_vertices (mesh_state m) (held c.extend_from_slice.new.self) c.args.vertices.now c.requires c.extend_from_slice.ensures in
+    record { triangles = m.triangles; named = λ k h. omega (arith, m.named k h) }
 
 pub returns : goal.returns
-returns c = let e = take_all c.loop-vertex.vertex-index c.args.vertices.now c.loop-vertex-test.false in rw e at c.loop-vertex.invariant
+returns c = vertices_put (mesh_state c.args.self.now) _ c.args.vertices.now c.requires c.extend_from_slice.ensures
