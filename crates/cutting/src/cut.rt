@@ -3,7 +3,7 @@ ghost use Rattle.std.specs.Prelude.{◌≡◌, ◌*◌, ◌≤◌, map, length, 
 ghost use Rattle.std.specs.List.{AllByRecursion};
 ghost use Rattle.tessellator.specs.State.{finished_state};
 ghost use Rattle.cutting.specs.Cutting.{cut, Narrow};
-ghost use Rattle.cutting.specs.Outcome.{left, on_front, space_for, run_count, too_wide, in_one, in_runs, cutting};
+ghost use Rattle.cutting.specs.Outcome.{left, on_front, space_for, run_count, in_one, in_runs, cutting};
 ghost use Rattle.cutting.specs.Parts.{less, lowered, parts_from, Within};
 ghost use Rattle.cutting.specs.Promises.{Fewest, Complete, Faithful};
 ghost use Rattle.cutting.specs.Spans.{named, is_wide};
@@ -15,6 +15,7 @@ use crate::span::{MAX_SPAN, Span};
 use ecolor::vertex::TextureId;
 use tessellator::finished::Finished;
 
+// The two memories stay two parameters: methods of a struct that lends both would each have to promise that it keeps both references.
 /// Refuses where there is no space for so many indices and parts.
 fn check_space(
     index_count: usize,
@@ -39,6 +40,7 @@ fn lower(source: &[u32], least: u32, indices: &mut [u16])
     requires within { Within least source.now }
     ensures { indices.new ≡ on_front (less least source.now) indices.old }
 {
+    // By number: over `indices.iter_mut().zip(source)` nothing is known of what was written.
     for (i, index) in source.iter().enumerate() {
         indices[i] = (*index - least) as u16;
     }
@@ -78,6 +80,7 @@ fn write_runs(
 {
     let mut runs = Runs(triangles);
     let mut first_index = 0;
+    // Not a `zip` of the parts and the runs: over one nothing is known of what was written.
     for part in parts.iter_mut() {
         let Some(run) = runs.next() else {
             break;
