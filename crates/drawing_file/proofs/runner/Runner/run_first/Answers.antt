@@ -10,7 +10,7 @@ invariant_of-self c =
     let shorter = passes (run_state c.args.self.now) (run_state c.step.new.self) (item c.in_ok-reading.reading.record) c.in_ok-reading.reading.rest.now _ c.in_ok-reading.ensures.read c.in_ok-drawn.ensures in
     record { few = c.step.new.self.few; counted = omega (arith, shorter, c.step.new.self.counted) }
 
-pub invariant_of-self-in-None : goal.invariant_of-self-in-None
-invariant_of-self-in-None c =
+pub invariant_of-self-2 : goal.invariant_of-self-2
+invariant_of-self-2 c =
     let shorter = passes (run_state c.args.self.now) (run_state c.step.new.self) (item c.in_ok-reading.reading.record) c.in_ok-reading.reading.rest.now _ c.in_ok-reading.ensures.read c.in_ok-drawn.ensures in
     record { few = c.step.new.self.few; counted = omega (arith, shorter, c.step.new.self.counted) }
