@@ -15,22 +15,26 @@ pub struct PaintBytes<'a> {
     pub ghost said: { kind ≡ values.kind (slice_index bytes.now 16) },
 }
 
-impl<'a> PaintBytes<'a> {
+/// Refuses bytes whose last says no kind.
+impl<'a> TryFrom<&'a [u8; 17]> for PaintBytes<'a> {
     ghost use Rattle.drawing_file.specs.Format.{paint_read, known_paint};
 
-    /// Refuses bytes whose last says no kind.
-    pub(crate) fn read(bytes: &'a [u8; 17]) -> Result<PaintBytes<'a>, FileFault>
-        ensures { paint_read result ≡ known_paint bytes.now }
-    {
+    type Error = FileFault;
+
+    ghost try_from_gives = { λ bytes r. paint_read r ≡ known_paint bytes.now };
+
+    fn try_from(bytes: &'a [u8; 17]) -> Result<PaintBytes<'a>, FileFault> {
         let kind = kind_of(bytes[16])?;
         Ok(PaintBytes { bytes, kind })
     }
+}
 
-    /// What the record asks for.
-    pub(crate) fn paint(self) -> Paint
-        ensures { result ≡ values.paint_of self.entry.bytes.now }
-    {
-        let bytes = self.bytes;
+/// What the record asks for.
+impl<'a> From<PaintBytes<'a>> for Paint {
+    ghost from_gives = { λ bytes r. r ≡ values.paint_of bytes.bytes.now };
+
+    fn from(value: PaintBytes<'a>) -> Paint {
+        let bytes = value.bytes;
         let ([fill, color, width, feathering], _) = bytes.as_chunks::<4>() else {
             unreachable!()
         };
@@ -41,7 +45,7 @@ impl<'a> PaintBytes<'a> {
                 color: Solid {
                     color: color_of(*color),
                 },
-                kind: self.kind,
+                kind: value.kind,
             },
             feathering: fraction_of(*feathering),
         }

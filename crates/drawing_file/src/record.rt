@@ -27,7 +27,7 @@ fn record_of<'a>(tag: u8, body: &'a [u8]) -> Result<Record<'a>, FileFault>
         2 => Err(FileFault::WrongLength),
         5 => {
             let bytes = body.as_array().ok_or(FileFault::WrongLength)?;
-            Ok(Record::Paint(PaintBytes::read(bytes)?))
+            Ok(Record::Paint(PaintBytes::try_from(bytes)?))
         }
         _ => Err(FileFault::UnknownTag),
     }

@@ -8,6 +8,7 @@ ghost use Rattle.drawing_file.specs.Laws.{Heads, Leaves, listed};
 ghost use Rattle.drawing_file.specs.Runs.{run_state, started, answered, stepped, first_run, told_at, along, first_figure, next};
 
 use super::{Figure, Refusal, Runner, Waiting};
+use crate::decode::Paint;
 use crate::fault::FileFault;
 use crate::record::Record;
 use crate::solid::stroke_solid;
@@ -54,7 +55,7 @@ impl<'r, 'a> Runner<'r, 'a> {
             }
             (Waiting::Nothing, Record::Paint(_)) => Err(FileFault::PaintWithoutPath),
             (Waiting::OpenLine, Record::Paint(bytes)) => {
-                let paint = bytes.paint();
+                let paint = Paint::from(bytes);
                 if !paint.fill.is_transparent() {
                     return Err(FileFault::FilledOpenLine);
                 }
