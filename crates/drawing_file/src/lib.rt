@@ -8,4 +8,3 @@ pub mod listing;
 pub mod paint;
 pub mod record;
 pub mod runner;
-mod solid;

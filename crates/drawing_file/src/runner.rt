@@ -9,7 +9,7 @@ use tessellator::mesh::Mesh;
 
 pub mod run;
 
-/// What waits for paint.
+/// What waits for paint. The line itself stands in the path, so that an `Option` would hold nothing more.
 #[derive(Clone, Copy)]
 pub enum Waiting {
     Nothing,

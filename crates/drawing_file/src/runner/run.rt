@@ -11,12 +11,12 @@ use super::{Figure, Refusal, Runner, Waiting};
 use crate::decode::Paint;
 use crate::fault::FileFault;
 use crate::record::Record;
-use crate::solid::stroke_solid;
 use crate::{line, record};
 use emath::plane::Pos2;
 use path::path::Path;
 use tessellator::fault::Appended;
 use tessellator::mesh::Mesh;
+use tessellator::stroke::open::stroke_open;
 
 /// The most bytes that a file may have.
 const MAX_BYTES: usize = 49_152;
@@ -43,6 +43,7 @@ impl<'r, 'a> Runner<'r, 'a> {
     }
 
     /// Runs one record. A paint answers the size of its figure.
+    #[tactic(auto, unfolding(crate::specs::Solids::solid_outcome))]
     fn step(&mut self, record: Record) -> Result<Option<Appended>, FileFault>
         ensures { answered (told result) (run_state self.new) ≡ stepped (run_state self.old) (item «record».entry) }
     {
@@ -59,7 +60,7 @@ impl<'r, 'a> Runner<'r, 'a> {
                 if !paint.fill.is_transparent() {
                     return Err(FileFault::FilledOpenLine);
                 }
-                let size = stroke_solid(self.path, paint.feathering, &paint.stroke, self.mesh)?;
+                let size = stroke_open(self.path, paint.feathering, &paint.stroke, self.mesh)?;
                 self.path.clear();
                 self.waiting = Waiting::Nothing;
                 Ok(Some(size))
