@@ -42,11 +42,11 @@ pub fn next_record<'a>(bytes: &'a [u8]) -> Result<Reading<'a>, FileFault>
         return Err(FileFault::CutShort);
     };
     let n = usize::from(u16::from_be_bytes([*high, *low]));
-    let Some((body, rest)) = body.split_at_checked(n) else {
-        return Err(FileFault::CutShort);
-    };
-    Ok(Reading {
-        record: record_of(*tag, body)?,
-        rest,
-    })
+    match body.split_at_checked(n) {
+        Some((body, rest)) => Ok(Reading {
+            record: record_of(*tag, body)?,
+            rest,
+        }),
+        None => Err(FileFault::CutShort),
+    }
 }
