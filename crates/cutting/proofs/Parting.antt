@@ -1,86 +1,98 @@
 -- Runs written as parts, one after the other.
-use Rattle.std.proofs.Common.{◌≡◌, ℕ, suc, ◌+◌, ◌-◌, ◌*◌, ◌/◌, ◌<◌, ◌≤◌, List, [], ◌∷◌, ◌++◌, length, drop, set, sym, refl, ap, ◌∙◌, inl, inr, arith}
+use Rattle.std.proofs.Common.{◌≡◌, ℕ, suc, ◌+◌, ◌-◌, ◌*◌, ◌<◌, ◌≤◌, List, [], ◌∷◌, ◌++◌, map, length, get_or, set, sym, refl, ap, ◌∙◌, arith}
 use borrow.Rule.Slice.PartMut.{put_mid}
 use Rattle.std.specs.List.{between}
-use Rattle.std.proofs.lemmas.List.{append-nil, drop_all, length-map, length-take, length-drop}
-use Rattle.std.proofs.lemmas.Bool.{cases_lt}
-use Rattle.tessellator.specs.Triangles.{Triangle, flat, triples}
+use Rattle.std.proofs.lemmas.List.{append-nil, drop_all, length-append, length-map, length-take, length-drop}
+use Rattle.tessellator.specs.Triangles.{Triangle, tri, flat}
 use Rattle.ecolor.specs.declared.vertex.TextureId.{TextureId}
-use Rattle.cutting.specs.Cutting.{cut, span}
+use Rattle.cutting.specs.Cutting.{cut, span, joined, Legal}
 use Rattle.cutting.specs.Outcome.{on_front}
-use Rattle.cutting.specs.Parts.{part, least, less, lowered, parts_from}
-use Rattle.cutting.specs.Spans.{span_of, width}
+use Rattle.cutting.specs.Parts.{part, least, less, lowered, parts_from, Within}
+use Rattle.cutting.specs.Runs.{span_of_run, with_span}
+use Rattle.cutting.specs.Spans.{width}
 use Rattle.cutting.specs.declared.part.Part.{Part}
 use Rattle.cutting.specs.declared.span.Span.{Span}
-use Rattle.cutting.proofs.Counting.{runs_after, starts, onto_some}
-use Rattle.cutting.proofs.Running.{Running, run, run_length, run_indices, run_least, run_span, run_cut}
-use Rattle.tessellator.proofs.Triples.{length-triples, length-flat}
-use Rattle.cutting.proofs.Writing.{Writing, reached, ends, part_written, one_written}
+use Rattle.cutting.proofs.Cuts.{joined_cut}
+use Rattle.cutting.proofs.Running.{run_within}
+use Rattle.cutting.proofs.Writing.{Writing, reached, part_written, one_written}
+use Rattle.tessellator.proofs.Triples.{length-flat}
 
 pub length-parts : (first : ℕ) (texture : TextureId) (runs : List (List Triangle)) → length (parts_from first texture runs) ≡ length runs
 length-parts first texture [] = refl
 length-parts first texture (run ∷ runs) = ap suc (length-parts (first + 3 * length run) texture runs)
 
-cut_some : (ts : List Triangle) → length (cut ts) ≡ 0 → ts ≡ []
-cut_some [] h = refl
-cut_some (t ∷ ts) h = absurd (omega (arith, ap length (starts t ts), onto_some t (runs_after (span_of t) ts)))
+pub length-lowered : (runs : List (List Triangle)) → length (lowered runs) ≡ 3 * length (joined runs)
+length-lowered [] = refl
+length-lowered (run ∷ runs) =
+    let a = length-append (less (least run) (flat run)) (lowered runs) in
+    let b = length-map (flat run) (λ i. i - least run) in
+    omega (arith, a, b, length-flat run, length-append run (joined runs), length-lowered runs)
 
 full_front : {X : Type 0} (xs memory : List X) → length xs ≡ length memory → on_front xs memory ≡ xs
 full_front xs memory e = ap (λ l. xs ++ l) (drop_all (length xs) memory (omega arith)) ∙ append-nil xs
 
--- Where i parts of the table are written, there is a triangle for the next.
-module _ (is : List ℕ) (texture : TextureId) (first i : ℕ) (before table : List Part)
-    (w : Writing (parts_from 0 texture (cut (triples is))) before i table (parts_from (3 * first) texture (cut (drop first (triples is)))))
-    (full : length before ≡ length (cut (triples is))) where
-  left_over : i + length (cut (drop first (triples is))) ≡ length before
-  left_over =
-      omega (arith, reached _ _ _ _ _ w, length-parts 0 texture (cut (triples is)), length-parts (3 * first) texture (cut (drop first (triples is))))
+least_is : (run : List Triangle) → least run ≡ (span_of_run run).least
+least_is [] = refl
+least_is (tri x y z ∷ ts) = refl
 
-  pub next_there : i < length before → first < length is / 3
-  next_there h =
-      elim (cases_lt first (length is / 3)) [
-        | inl l ↦ l
-        | inr l ↦ absurd (omega (arith, left_over, ap (λ ts. length (cut ts)) (drop_all first (triples is) (omega (arith, length-triples is)))))
-      ]
+width_is : (run : List Triangle) → 1 ≤ length run → span run ≡ width (span_of_run run)
+width_is [] some = absurd (omega arith)
+width_is (tri x y z ∷ ts) some = refl
 
-  pub none_left : length before ≤ i → drop first (triples is) ≡ []
-  none_left h = cut_some _ (omega (arith, left_over))
+-- 16 bits can name the indices of a legal run
+pub run_named : (run : List Triangle) (s : Span) → s ≡ span_of_run run → Legal run → Within s.least (flat run)
+run_named run s e (some, small) k h =
+    let (a, b) = run_within run k h in
+    let low : s.least ≡ least run = ap (λ x. x.least) e ∙ sym (least_is run) in
+    (omega arith, omega arith)
 
-  pub table_written : length before ≤ i → table ≡ parts_from 0 texture (cut (triples is))
-  table_written h =
-      ends _ _ i _ (rw (none_left h) at w)
-      ∙ full_front _ before (length-parts 0 texture (cut (triples is)) ∙ sym full)
+-- the runs, of the runs with their spans
+without_spans : (runs : List (List Triangle)) → map (λ (p : Span × List Triangle). p.1) (map with_span runs) ≡ runs
+without_spans [] = refl
+without_spans (run ∷ runs) = ap (λ l. run ∷ l) (without_spans runs)
 
--- a run that came to its end is written
-module _ (is : List ℕ) (first end : ℕ) (s : Span) (r : Running is first end s) (over : runs_after s (drop end (triples is)) ≡ [] ∷ cut (drop end (triples is))) where
-  abbrev run_now : List Triangle
-  run_now = run is first end s r
+pub first_of_runs : (runs others : List (List Triangle)) (s : Span) (run : List Triangle) → map with_span runs ≡ (s, run) ∷ map with_span others →
+    (runs ≡ run ∷ others) × (s ≡ span_of_run run)
+first_of_runs runs others s run e =
+    let a : runs ≡ run ∷ others = sym (without_spans runs) ∙ ap (map (λ p. p.1)) e ∙ ap (λ l. run ∷ l) (without_spans others) in
+    (a, ap (λ (l : List (Span × List Triangle)). (get_or l 0 (s, run)).0) (sym e ∙ ap (map with_span) a))
 
-  pub lowers_on : (all before memory written : List ℕ) → length is ≤ length memory →
-      written ≡ on_front (less s.least (between (3 * first) (3 * end) is)) (between (3 * first) (3 * end) memory) →
-      Writing all before (3 * first) memory (lowered (cut (drop first (triples is)))) →
-      Writing all before (3 * end) (put_mid (3 * first) (3 * end - 3 * first) memory written) (lowered (cut (drop end (triples is))))
-  lowers_on all before memory written long e w =
-      let all-of-it : length (less s.least (between (3 * first) (3 * end) is)) ≡ length (between (3 * first) (3 * end) memory) =
-      simp (length-map, length-take, length-drop) (omega (arith, r.within)) in
-      let same : written ≡ less (least run_now) (flat run_now) =
-      e ∙ full_front _ _ all-of-it ∙ ap (less s.least) (run_indices is first end s r) ∙ ap (λ n. less n (flat run_now)) (sym (run_least is first end s r)) in
-      let long-now : length (less (least run_now) (flat run_now)) ≡ 3 * end - 3 * first =
-      length-map (flat run_now) (λ i. i - least run_now) ∙ omega (arith, length-flat run_now, run_length is first end s r) in
-      let to : 3 * first + (3 * end - 3 * first) ≡ 3 * end = omega (arith, run_length is first end s r) in
-      rw same
-      (rw to at
-      (part_written all before (3 * first) (3 * end - 3 * first) memory (less (least run_now) (flat run_now)) (lowered (cut (drop end (triples is)))) long-now
-      (rw (run_cut is first end s r over) at w)))
+pub no_runs : (runs : List (List Triangle)) → map with_span runs ≡ [] → runs ≡ []
+no_runs runs e = sym (without_spans runs) ∙ ap (map (λ p. p.1)) e
 
-  pub lists_on : (texture : TextureId) (all before table : List Part) (i wide : ℕ) → i < length table → wide ≡ width s →
-      Writing all before i table (parts_from (3 * first) texture (cut (drop first (triples is)))) →
-      Writing all before (i + 1) (set table i (part s.least wide (3 * first) (3 * end - 3 * first) texture)) (parts_from (3 * end) texture (cut (drop end (triples is))))
-  lists_on texture all before table i wide there e w =
-      let to : 3 * first + 3 * length run_now ≡ 3 * end = omega (arith, run_length is first end s r) in
-      let counted : 3 * length run_now ≡ 3 * end - 3 * first = omega (arith, run_length is first end s r) in
-      let next : part (least run_now) (span run_now) (3 * first) (3 * length run_now) texture ≡ part s.least wide (3 * first) (3 * end - 3 * first) texture =
-      let a = run_least is first end s r in
-      let b = run_span is first end s r in
-      cc in
-      one_written all before i table _ _ there (rw (run_cut is first end s r over, next, to) at w)
+-- A run is written behind those before it.
+module _ (run : List Triangle) (rest : List (List Triangle)) (s : Span) (source : List ℕ) (n : ℕ) (e : s ≡ span_of_run run) (is : source ≡ flat run) where
+  pub room : (ts : List Triangle) (before memory : List ℕ) → Writing (lowered (cut ts)) before n memory (lowered (run ∷ rest)) → n + length source ≤ 3 * length ts
+  room ts before memory w =
+      let all = ap length (joined_cut ts) in
+      omega (arith, reached _ _ _ _ _ w, length-lowered (cut ts), all, length-append (less (least run) (flat run)) (lowered rest), length-map (flat run) (λ i. i - least run), ap length is)
+
+  pub lowers_on : (all before memory written : List ℕ) → n + length source ≤ length memory →
+      written ≡ on_front (less s.least source) (between n (n + length source) memory) → Writing all before n memory (lowered (run ∷ rest)) →
+      Writing all before (n + length source) (put_mid n (n + length source - n) memory written) (lowered rest)
+  lowers_on all before memory written fits same w =
+      let low : s.least ≡ least run = ap (λ x. x.least) e ∙ sym (least_is run) in
+      let whole : length (less s.least source) ≡ length (between n (n + length source) memory) = simp (length-map, length-take, length-drop) (omega arith) in
+      let now : written ≡ less (least run) (flat run) = same ∙ full_front _ _ whole ∙ ap (less s.least) is ∙ ap (λ k. less k (flat run)) low in
+      let long : n + length source - n ≡ length source = omega arith in
+      let count : length (less (least run) (flat run)) ≡ length source = length-map (flat run) (λ i. i - least run) ∙ ap length (sym is) in
+      rw (now, long) (part_written all before n (length source) memory (less (least run) (flat run)) (lowered rest) count w)
+
+  pub lists_on : (texture : TextureId) (all before table : List Part) (i wide : ℕ) → i < length table → 1 ≤ length run → wide ≡ width s →
+      Writing all before i table (parts_from n texture (run ∷ rest)) →
+      Writing all before (i + 1) (set table i (part s.least wide n (length source) texture)) (parts_from (n + length source) texture rest)
+  lists_on texture all before table i wide there some widths w =
+      let count : 3 * length run ≡ length source = omega (arith, ap length is, length-flat run) in
+      let low : least run ≡ s.least = least_is run ∙ sym (ap (λ x. x.least) e) in
+      let across : span run ≡ wide = width_is run some ∙ sym (widths ∙ ap width e) in
+      rw (low, across, count) at (one_written all before i table _ _ there w)
+
+empty : (runs : List (List Triangle)) → length runs ≡ 0 → runs ≡ []
+empty [] e = refl
+empty (run ∷ runs) e = absurd (omega arith)
+
+-- where all places of the table are written, no run is left
+pub none_left : (texture : TextureId) (first i : ℕ) (all runs : List (List Triangle)) (before table : List Part) →
+    Writing (parts_from 0 texture all) before i table (parts_from first texture runs) → length all ≤ i → runs ≡ []
+none_left texture first i all runs before table w full =
+    empty runs (omega (arith, reached _ _ _ _ _ w, length-parts 0 texture all, length-parts first texture runs))

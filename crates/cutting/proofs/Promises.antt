@@ -127,12 +127,9 @@ complete_cut m memory table proper =
     rw front (subst (InRow 0 rows) all (in_row 0 m.texture runs)))
 
 -- of an outcome that is the cutting's
-module _ (m : MeshState) (memory : List ℕ) (table : List Part) (o : Outcome) (e : o ≡ cutting m memory table) (proper : Proper m) where
-  pub fewest : Fewest m o
-  fewest = subst (Fewest m) (sym e) (fewest_cut m memory table)
-
-  pub complete : Complete m o
-  complete = subst (Complete m) (sym e) (complete_cut m memory table proper)
-
-  pub faithful : Faithful m o
-  faithful = subst (Faithful m) (sym e) (faithful_cut m memory table proper)
+pub promised : (m : MeshState) (memory : List ℕ) (table : List Part) (o : Outcome) → o ≡ cutting m memory table → Proper m → Fewest m o × Complete m o × Faithful m o
+promised m memory table o e proper = (
+  subst (Fewest m) (sym e) (fewest_cut m memory table),
+  subst (Complete m) (sym e) (complete_cut m memory table proper),
+  subst (Faithful m) (sym e) (faithful_cut m memory table proper),
+)

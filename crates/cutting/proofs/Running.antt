@@ -1,15 +1,13 @@
 -- A run of triangles as far as it goes.
-use Rattle.std.proofs.Common.{◌≡◌, ℕ, zero, suc, ◌+◌, ◌-◌, ◌*◌, ◌/◌, ◌<◌, ◌≤◌, min, max, true, false, List, [], ◌∷◌, ◌++◌, length, get_or, drop, sym, refl, ap, ◌∙◌, subst, arith}
-use Rattle.std.specs.List.{between, AllByRecursion}
-use Rattle.std.proofs.lemmas.List.{drop_more, drop_all, append-nil, append_assoc, length-append}
-use Rattle.std.proofs.lemmas.Bool.{leb-true}
-use Rattle.tessellator.specs.Triangles.{Triangle, tri, flat, triples}
-use Rattle.cutting.specs.Cutting.{lowest, highest, span, onto, cut, Narrow}
-use Rattle.cutting.specs.Parts.{least, Within}
-use Rattle.cutting.specs.Spans.{span_of, both, narrow, width}
+use Rattle.std.proofs.Common.{◌≡◌, ℕ, zero, suc, ◌+◌, ◌<◌, ◌≤◌, min, max, true, false, List, [], ◌∷◌, ◌++◌, map, length, get_or, take, drop, sym, refl, ap, ◌∙◌, subst, add-one, arith}
+use Rattle.std.proofs.lemmas.List.{drop_more, take_more, drop_all, append-nil, append_assoc, take-map, drop-map}
+use Rattle.tessellator.specs.Triangles.{Triangle, tri, flat}
+use Rattle.cutting.specs.Cutting.{lowest, highest, span, onto, cut}
+use Rattle.cutting.specs.Parts.{least}
+use Rattle.cutting.specs.Runs.{span_of_run, with_span}
+use Rattle.cutting.specs.Spans.{named, span_of, both, narrow}
 use Rattle.cutting.specs.declared.span.Span.{Span}
-use Rattle.cutting.proofs.Counting.{runs_after, triangle, starts, goes_on, stops, span_ordered, some_after}
-use Rattle.tessellator.proofs.Triples.{length-triples, between_flat}
+use Rattle.cutting.proofs.Counting.{runs_after, triangle, starts, goes_on, stops, some_after}
 
 -- a run that was begun, in front of what it goes on with
 abbrev pub prefixed : List Triangle → List (List Triangle) → List (List Triangle)
@@ -31,12 +29,6 @@ lowest_push low (tri a b c ∷ ts) t = lowest_push (min low (min a (min b c))) t
 highest_push : (high : ℕ) (ts : List Triangle) (t : Triangle) → highest high (ts ++ t ∷ []) ≡ max (highest high ts) (span_of t).greatest
 highest_push high [] (tri x y z) = refl
 highest_push high (tri a b c ∷ ts) t = highest_push (max high (max a (max b c))) ts t
-
-least_is : (t : Triangle) (ts : List Triangle) → least (t ∷ ts) ≡ lowest (span_of t).least ts
-least_is (tri x y z) ts = refl
-
-span_is : (t : Triangle) (ts : List Triangle) → span (t ∷ ts) ≡ highest (span_of t).greatest ts - lowest (span_of t).least ts + 1
-span_is (tri x y z) ts = refl
 
 pub high_up : (ts : List Triangle) (high : ℕ) → high ≤ highest high ts
 high_up [] high = omega arith
@@ -70,100 +62,60 @@ run_within (tri x y z ∷ ts) k h =
     let (low, high) = ends_from x y z ts in
     (omega arith, omega arith)
 
-narrow_span : (t : Triangle) → Narrow t → width (span_of t) ≤ 65535
-narrow_span (tri x y z) h = h
+span_push : (t u : Triangle) (ts : List Triangle) → span_of_run (t ∷ (ts ++ u ∷ [])) ≡ both (span_of_run (t ∷ ts)) (span_of u)
+span_push t u ts =
+    let a = lowest_push (span_of t).least ts u in
+    let b = highest_push (span_of t).greatest ts u in
+    cc
 
--- Of the indices `is`, the run that begins at triangle `first` has come to `end`: its triangles after the first are `tail`, and its span is s.
-pub record Running (is : List ℕ) (first end : ℕ) (s : Span) : Type 0 where
-  pub tail : List Triangle
-  pub within : end ≤ length is / 3
-  pub long : first + 1 + length tail ≡ end
-  pub parts : drop (first + 1) (triples is) ≡ tail ++ drop end (triples is)
-  pub low : lowest (span_of (triangle (triples is) first)).least tail ≡ s.least
-  pub high : highest (span_of (triangle (triples is) first)).greatest tail ≡ s.greatest
-  pub ordered : s.least ≤ s.greatest
-  pub fits : width s ≤ 65535
-  pub runs : runs_after (span_of (triangle (triples is) first)) (drop (first + 1) (triples is)) ≡ prefixed tail (runs_after s (drop end (triples is)))
-  pub others : AllByRecursion Narrow (drop end (triples is))
+-- The run that begins at the triangle t has come over the first n of those after it, and its span is s.
+pub record Running (t : Triangle) (ts : List Triangle) (n : ℕ) (s : Span) : Type 0 where
+  pub few : n ≤ length ts
+  pub spans : s ≡ span_of_run (t ∷ take n ts)
+  pub runs : runs_after (span_of t) ts ≡ prefixed (take n ts) (runs_after s (drop n ts))
 
-module _ (is : List ℕ) where
-  at : (k : ℕ) → k < length is / 3 → drop k (triples is) ≡ triangle (triples is) k ∷ drop (k + 1) (triples is)
-  at k h = drop_more (triples is) k (tri 0 0 0) (omega (arith, length-triples is))
+pub run_begins : (t : Triangle) (ts : List Triangle) (s : Span) → s ≡ span_of t → Running t ts 0 s
+run_begins t ts s e = subst (Running t ts 0) (sym e) (record { few = omega arith; spans = refl; runs = prefixed_none _ (some_after (span_of t) ts) })
 
-  pub run_begins : (first : ℕ) (s : Span) → first < length is / 3 → AllByRecursion Narrow (drop first (triples is)) → s ≡ span_of (triangle (triples is) first) → Running is first (first + 1) s
-  run_begins first s h a e =
-      let t = triangle (triples is) first in
-      let all = subst (AllByRecursion Narrow) (at first h) a in
-      subst (Running is first (first + 1)) (sym e)
+module _ {t : Triangle} {ts : List Triangle} {n : ℕ} {s : Span} (r : Running t ts n s) where
+  pub run_takes : (wider : Span) → n < length ts → wider ≡ both s (span_of (triangle ts n)) → narrow wider ≡ true → Running t ts (n + 1) wider
+  run_takes wider h e fits =
+      let u = triangle ts n in
+      let rest = drop (n + 1) ts in
+      let more = take_more ts n (tri 0 0 0) h in
+      subst (Running t ts (n + 1)) (sym e)
       (record {
-        tail = [];
-        within = omega arith;
-        long = omega arith;
-        parts = refl;
-        low = refl;
-        high = refl;
-        ordered = span_ordered t;
-        fits = narrow_span t all.0;
-        runs = prefixed_none _ (some_after (span_of t) (drop (first + 1) (triples is)));
-        others = all.1;
+        few = omega arith;
+        spans = ap (λ x. both x (span_of u)) r.spans ∙ sym (span_push t u (take n ts)) ∙ ap (λ l. span_of_run (t ∷ l)) (sym more);
+        runs = r.runs ∙ ap (λ l. prefixed (take n ts) (runs_after s l)) (drop_more ts n (tri 0 0 0) h)
+            ∙ ap (prefixed (take n ts)) (goes_on s u rest (sym (ap narrow e) ∙ fits))
+            ∙ prefixed_onto (take n ts) u (runs_after (both s (span_of u)) rest)
+            ∙ ap (λ l. prefixed l (runs_after (both s (span_of u)) rest)) (sym more);
       })
 
-  module _ (first end : ℕ) (s : Span) (r : Running is first end s) where
-    pub run_takes : (wider : Span) → end < length is / 3 → wider ≡ both s (span_of (triangle (triples is) end)) → narrow wider ≡ true → Running is first (end + 1) wider
-    run_takes wider h e fits =
-        let t = triangle (triples is) end in
-        let all = subst (AllByRecursion Narrow) (at end h) r.others in
-        let joined = sym (ap narrow e) ∙ fits in
-        subst (Running is first (end + 1)) (sym e)
-        (record {
-          tail = r.tail ++ t ∷ [];
-          within = omega arith;
-          long = omega (arith, r.long, length-append r.tail (t ∷ []));
-          parts = r.parts ∙ ap (λ l. r.tail ++ l) (at end h) ∙ sym (append_assoc r.tail (t ∷ []) (drop (end + 1) (triples is)));
-          low = lowest_push _ r.tail t ∙ ap (λ n. min n (span_of t).least) r.low;
-          high = highest_push _ r.tail t ∙ ap (λ n. max n (span_of t).greatest) r.high;
-          ordered = omega (arith, r.ordered, span_ordered t);
-          fits = leb-true _ _ joined;
-          runs = r.runs ∙ ap (λ l. prefixed r.tail (runs_after s l)) (at end h)
-              ∙ ap (prefixed r.tail) (goes_on s t (drop (end + 1) (triples is)) joined)
-              ∙ prefixed_onto r.tail t (runs_after (both s (span_of t)) (drop (end + 1) (triples is)));
-          others = all.1;
-        })
+  -- the run ends with the triangles, or before one that it cannot take
+  abbrev pub Over : Type 0
+  Over = runs_after s (drop n ts) ≡ [] ∷ cut (drop n ts)
 
-    -- the run ends with the triangles, or before one that it cannot take
-    pub runs_out : length is / 3 ≤ end → runs_after s (drop end (triples is)) ≡ [] ∷ cut (drop end (triples is))
-    runs_out h = let none = drop_all end (triples is) (omega (arith, length-triples is)) in rw none refl
+  pub runs_out : length ts ≤ n → Over
+  runs_out h = let none = drop_all n ts h in rw none refl
 
-    pub run_full : (wider : Span) → end < length is / 3 → wider ≡ both s (span_of (triangle (triples is) end)) → narrow wider ≡ false →
-        runs_after s (drop end (triples is)) ≡ [] ∷ cut (drop end (triples is))
-    run_full wider h e full = rw (at end h) (stops s (triangle (triples is) end) (drop (end + 1) (triples is)) (sym (ap narrow e) ∙ full))
+  pub run_full : (wider : Span) → n < length ts → wider ≡ both s (span_of (triangle ts n)) → narrow wider ≡ false → Over
+  run_full wider h e full = rw (drop_more ts n (tri 0 0 0) h) (stops s (triangle ts n) (drop (n + 1) ts) (sym (ap narrow e) ∙ full))
 
-    -- its triangles
-    abbrev pub run : List Triangle
-    run = triangle (triples is) first ∷ r.tail
+  pub run_cut : Over → cut (t ∷ ts) ≡ (t ∷ take n ts) ∷ cut (drop n ts)
+  run_cut over =
+      starts t ts ∙ ap (onto t) (r.runs ∙ ap (prefixed (take n ts)) over ∙ ap (λ l. l ∷ cut (drop n ts)) (append-nil (take n ts)))
 
-    pub run_length : first + length run ≡ end
-    run_length = omega (arith, r.long)
-
-    begun : drop first (triples is) ≡ triangle (triples is) first ∷ drop (first + 1) (triples is)
-    begun = at first (omega (arith, r.long, r.within))
-
-    pub run_indices : between (3 * first) (3 * end) is ≡ flat run
-    run_indices = between_flat is first end run run_length (begun ∙ ap (λ l. triangle (triples is) first ∷ l) r.parts) r.within
-
-    pub run_least : least run ≡ s.least
-    run_least = least_is (triangle (triples is) first) r.tail ∙ r.low
-
-    pub run_span : span run ≡ width s
-    run_span = span_is (triangle (triples is) first) r.tail ∙ simp (r.low, r.high)
-
-    pub run_cut : runs_after s (drop end (triples is)) ≡ [] ∷ cut (drop end (triples is)) → cut (drop first (triples is)) ≡ run ∷ cut (drop end (triples is))
-    run_cut over =
-        let t = triangle (triples is) first in
-        ap cut begun ∙ starts t (drop (first + 1) (triples is))
-        ∙ ap (onto t) (r.runs ∙ ap (prefixed r.tail) over ∙ ap (λ l. l ∷ cut (drop end (triples is))) (append-nil r.tail))
-
-    -- 16 bits can name its indices
-    pub run_named : Within s.least (between (3 * first) (3 * end) is)
-    run_named = subst (Within s.least) (sym run_indices)
-        (λ k h. let (a, b) = run_within run k h in (omega (arith, run_least), omega (arith, run_least, run_span, r.fits)))
+-- the run as the code leaves it, in front of those after it
+pub next_run : (is front back others : List (List ℕ)) (first : List ℕ) (n : ℕ) (s : Span) → is ≡ first ∷ others → (r : Running (named first) (map named others) n s) → Over r →
+    front ≡ take (n + 1) is → back ≡ drop (n + 1) is → map with_span (cut (map named is)) ≡ (s, map named front) ∷ map with_span (cut (map named back))
+next_run is front back others first n s e r over f b =
+    let t = named first in
+    let ts = map named others in
+    let run : t ∷ take n ts ≡ map named front = rw (f, e, add-one n) (ap (λ l. t ∷ l) (take-map named n others)) in
+    let rest : drop n ts ≡ map named back = rw (b, e, add-one n) (drop-map named n others) in
+    ap (λ l. map with_span (cut (map named l))) e ∙ ap (map with_span) (run_cut r over)
+    ∙ ap (λ x. (x, t ∷ take n ts) ∷ map with_span (cut (drop n ts))) (sym r.spans)
+    ∙ ap (λ l. (s, l) ∷ map with_span (cut (drop n ts))) run
+    ∙ ap (λ l. (s, map named front) ∷ map with_span (cut l)) rest

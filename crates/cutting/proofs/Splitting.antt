@@ -1,19 +1,18 @@
 -- From what a split has checked and written to what it answers and leaves.
-use Rattle.std.proofs.Common.{◌≡◌, ℕ, ◌+◌, ◌-◌, ◌*◌, ◌<◌, ◌≤◌, Bool, true, false, cond, leb, List, [], ◌∷◌, ◌++◌, length, drop, set, Some, None, Ok, Err, Option, Result, sym, refl, ap, ◌∙◌, arith}
+use Rattle.std.proofs.Common.{◌≡◌, ℕ, ◌+◌, ◌-◌, ◌<◌, ◌≤◌, Bool, true, false, cond, leb, List, [], ◌∷◌, length, set, Some, None, Ok, Err, Option, Result, sym, refl, ap, ◌∙◌, arith}
 use Rattle.std.specs.List.{AllByRecursion}
-use Rattle.std.proofs.lemmas.List.{length-append, length-map}
 use Rattle.std.proofs.lemmas.Bool.{leb-true}
 use Rattle.tessellator.specs.State.{MeshState}
-use Rattle.tessellator.specs.Triangles.{Triangle, flat, triples}
-use Rattle.cutting.specs.Cutting.{cut, span, joined, Narrow}
-use Rattle.cutting.specs.Outcome.{left, on_front, space_for, placed_if, placed, too_wide, counted, run_count, unless_wide, in_runs}
-use Rattle.cutting.specs.Parts.{least, less, lowered, parts_from, Within}
+use Rattle.tessellator.specs.Triangles.{Triangle, triples}
+use Rattle.cutting.specs.Cutting.{cut, span, Narrow}
+use Rattle.cutting.specs.Outcome.{Outcome, left, on_front, space_for, placed_if, placed, too_wide, counted, run_count, unless_wide, in_runs}
+use Rattle.cutting.specs.Parts.{less, lowered, parts_from, Within}
 use Rattle.cutting.specs.declared.fault.CutFault.{CutFault}
 use Rattle.cutting.specs.declared.part.Part.{Part}
 use Rattle.cutting.proofs.Cuts.{joined_cut}
 use Rattle.cutting.proofs.Finished.{Proper}
-use Rattle.cutting.proofs.Parting.{length-parts}
-use Rattle.tessellator.proofs.Triples.{length-triples, length-flat}
+use Rattle.cutting.proofs.Parting.{length-parts, length-lowered}
+use Rattle.tessellator.proofs.Triples.{length-triples}
 
 less_zero : (is : List ℕ) → less 0 is ≡ is
 less_zero [] = refl
@@ -72,45 +71,43 @@ run_count_lem ts count e =
     let (none, same) = counted_ok (too_wide 0 ts) (length (cut ts)) count e in
     (all_narrow 0 ts none, same)
 
-length-lowered : (runs : List (List Triangle)) → length (lowered runs) ≡ 3 * length (joined runs)
-length-lowered [] = refl
-length-lowered (run ∷ runs) =
-    let a = length-append (less (least run) (flat run)) (lowered runs) in
-    let b = length-map (flat run) (λ i. i - least run) in
-    omega (arith, a, b, length-flat run, length-append run (joined runs), length-lowered runs)
-
--- in runs, whose source is the mesh's indices
-module _ (m : MeshState) (source memory : List ℕ) (table : List Part) (count : ℕ)
-    (same : source ≡ m.indices) (proper : Proper m) (e : Ok count ≡ run_count (triples source)) where
+-- in runs, whose triangles are the mesh's
+module _ (m : MeshState) (ts : List Triangle) (memory : List ℕ) (table : List Part) (same : ts ≡ triples m.indices) where
   abbrev runs : List (List Triangle)
   runs = cut (triples m.indices)
 
   abbrev rows : List Part
   rows = parts_from 0 m.texture runs
 
-  none : (too_wide 0 (triples m.indices) ≡ None) × (count ≡ length runs)
-  none = counted_ok _ _ _ (e ∙ ap (λ l. run_count (triples l)) same)
+  refused_by : (wide : Option ℕ) (n : ℕ) (o : Outcome) (fault : CutFault) → Err fault ≡ counted wide n → left (Err fault) memory table ≡ unless_wide wide o memory table
+  refused_by None n o fault e = absurd (let z : ◌≡◌ {A = ℕ} 0 1 = cc in omega arith)
+  refused_by (Some k) n o fault e = ap (λ r. left r memory table) e
 
-  settled : placed (lowered runs) rows memory table ≡ in_runs m memory table
-  settled = sym (ap (λ wide. unless_wide wide (placed (lowered runs) rows memory table) memory table) none.0)
+  pub runs_refused : (fault : CutFault) → Err fault ≡ run_count ts → left (Err fault) memory table ≡ in_runs m memory table
+  runs_refused fault e = refused_by (too_wide 0 (triples m.indices)) (length runs) (placed (lowered runs) rows memory table) fault (e ∙ ap run_count same)
 
-  space_same : space_for (length source) count (length memory) (length table) ≡ space_for (length (lowered runs)) (length rows) (length memory) (length table)
-  space_same =
-      let i : length source ≡ length (lowered runs) =
-      ap length same ∙ omega (arith, proper.threes, length-lowered runs, ap length (joined_cut (triples m.indices)), length-triples m.indices) in
-      let p : count ≡ length rows = none.1 ∙ sym (length-parts 0 m.texture runs) in
-      ap (λ n. space_for n count (length memory) (length table)) i ∙ ap (λ n. space_for (length (lowered runs)) n (length memory) (length table)) p
+  -- no triangle is too wide, and there is space or not
+  module _ (size count : ℕ) (sized : size ≡ length m.indices) (proper : Proper m) (e : Ok count ≡ run_count ts) where
+    none : (too_wide 0 (triples m.indices) ≡ None) × (count ≡ length runs)
+    none = counted_ok _ _ _ (e ∙ ap run_count same)
 
-  pub runs_declined : (fault : CutFault) → Err fault ≡ space_for (length source) count (length memory) (length table) → left (Err fault) memory table ≡ in_runs m memory table
-  runs_declined fault s = placed_by (lowered runs) rows memory table (Err fault) (s ∙ space_same) ∙ settled
+    settled : placed (lowered runs) rows memory table ≡ in_runs m memory table
+    settled = sym (ap (λ wide. unless_wide wide (placed (lowered runs) rows memory table) memory table) none.0)
 
-  pub runs_placed : (t : Unit {0}) (written : List ℕ) (listed : List Part) → Ok t ≡ space_for (length source) count (length memory) (length table) →
-      written ≡ on_front (lowered (cut (triples source))) memory → listed ≡ parts_from 0 m.texture (cut (triples source)) →
-      left (Ok count) written (listed ++ drop (count - 0) table) ≡ in_runs m memory table
-  runs_placed t written listed s w l =
-      let n : count ≡ length rows = none.1 ∙ sym (length-parts 0 m.texture runs) in
-      let k : count - 0 ≡ length rows = omega (arith, n) in
-      let a : written ≡ on_front (lowered runs) memory = w ∙ ap (λ is. on_front (lowered (cut (triples is))) memory) same in
-      let b : listed ≡ rows = l ∙ ap (λ is. parts_from 0 m.texture (cut (triples is))) same in
-      let c : listed ++ drop (count - 0) table ≡ on_front rows table = ap (λ i. listed ++ drop i table) k ∙ ap (λ ps. ps ++ drop (length rows) table) b in
-      rw (c, a, n) (placed_by (lowered runs) rows memory table (Ok t) (s ∙ space_same) ∙ settled)
+    space_same : space_for size count (length memory) (length table) ≡ space_for (length (lowered runs)) (length rows) (length memory) (length table)
+    space_same =
+        let i : size ≡ length (lowered runs) =
+        sized ∙ omega (arith, proper.threes, length-lowered runs, ap length (joined_cut (triples m.indices)), length-triples m.indices) in
+        let p : count ≡ length rows = none.1 ∙ sym (length-parts 0 m.texture runs) in
+        ap (λ n. space_for n count (length memory) (length table)) i ∙ ap (λ n. space_for (length (lowered runs)) n (length memory) (length table)) p
+
+    pub runs_declined : (fault : CutFault) → Err fault ≡ space_for size count (length memory) (length table) → left (Err fault) memory table ≡ in_runs m memory table
+    runs_declined fault s = placed_by (lowered runs) rows memory table (Err fault) (s ∙ space_same) ∙ settled
+
+    pub runs_placed : (t : Unit {0}) (written : List ℕ) (listed : List Part) → Ok t ≡ space_for size count (length memory) (length table) →
+        written ≡ on_front (lowered (cut ts)) memory → listed ≡ on_front (parts_from 0 m.texture (cut ts)) table → left (Ok count) written listed ≡ in_runs m memory table
+    runs_placed t written listed s w l =
+        let n : count ≡ length rows = none.1 ∙ sym (length-parts 0 m.texture runs) in
+        let a : written ≡ on_front (lowered runs) memory = w ∙ ap (λ ts. on_front (lowered (cut ts)) memory) same in
+        let b : listed ≡ on_front rows table = l ∙ ap (λ ts. on_front (parts_from 0 m.texture (cut ts)) table) same in
+        rw (a, b, n) (placed_by (lowered runs) rows memory table (Ok t) (s ∙ space_same) ∙ settled)

@@ -3,4 +3,5 @@ pub mod Faults
 pub mod Outcome
 pub mod Parts
 pub mod Promises
+pub mod Runs
 pub mod Spans

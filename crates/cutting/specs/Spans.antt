@@ -1,8 +1,11 @@
 -- The least and greatest index of some triangles.
-use Rattle.std.specs.Prelude.{ℕ, ◌+◌, ◌-◌, min, max, Bool, if◌then◌else◌, Ok, Err, Result, nat_le}
+use Rattle.std.specs.Prelude.{ℕ, ◌+◌, ◌-◌, min, max, Bool, not, List, nat_le, slice_index}
 use Rattle.tessellator.specs.Triangles.{Triangle, tri}
-use Rattle.cutting.specs.declared.fault.CutFault.{CutFault}
 use Rattle.cutting.specs.declared.span.Span.{Span}
+
+-- a triangle by its three indices
+abbrev pub named : List ℕ → Triangle
+named is = tri (slice_index is 0) (slice_index is 1) (slice_index is 2)
 
 abbrev pub span_of : Triangle → Span
 span_of (tri x y z) = record { least = min x (min y z); greatest = max x (max y z) }
@@ -17,5 +20,6 @@ width s = s.greatest - s.least + 1
 abbrev pub narrow : Span → Bool
 narrow s = nat_le (width s) 65535
 
-abbrev pub if_narrow : ℕ → Span → Result Span CutFault
-if_narrow k s = if narrow s then Ok s else Err (CutFault.Span k)
+-- a triangle that no part can hold
+abbrev pub is_wide : List ℕ → Bool
+is_wide is = not (narrow (span_of (named is)))

@@ -1,20 +1,21 @@
 //! Cutting a mesh.
-ghost use Rattle.std.specs.Prelude.{◌≡◌, ◌/◌, ◌<◌, ◌≤◌, length, slice_index_or};
+ghost use Rattle.std.specs.Prelude.{◌≡◌, ◌*◌, ◌≤◌, map, length, position};
 ghost use Rattle.std.specs.List.{AllByRecursion};
 ghost use Rattle.tessellator.specs.State.{finished_state};
-ghost use Rattle.tessellator.specs.Triangles.{tri, triples};
 ghost use Rattle.cutting.specs.Cutting.{cut, Narrow};
 ghost use Rattle.cutting.specs.Outcome.{left, on_front, space_for, run_count, in_one, in_runs, cutting};
 ghost use Rattle.cutting.specs.Parts.{less, lowered, parts_from, Within};
 ghost use Rattle.cutting.specs.Promises.{Fewest, Complete, Faithful};
-ghost use Rattle.cutting.specs.Spans as spans;
+ghost use Rattle.cutting.specs.Spans.{named, is_wide};
 
 use crate::fault::CutFault;
 use crate::part::Part;
+use crate::run::{Runs, indices_of};
 use crate::span::{MAX_SPAN, Span};
 use ecolor::vertex::TextureId;
 use tessellator::finished::Finished;
 
+// The two memories stay two parameters: methods of a struct that lends both would each have to promise that it keeps both references.
 /// Refuses where there is no space for so many indices and parts.
 fn check_space(
     index_count: usize,
@@ -39,77 +40,62 @@ fn lower(source: &[u32], least: u32, indices: &mut [u16])
     requires within { Within least source.now }
     ensures { indices.new ≡ on_front (less least source.now) indices.old }
 {
-    for i in 0..source.len() {
-        indices[i] = (source[i] - least) as u16;
+    // By number: over `indices.iter_mut().zip(source)` nothing is known of what was written.
+    for (i, index) in source.iter().enumerate() {
+        indices[i] = (*index - least) as u16;
     }
 }
 
-/// The span of a triangle. Refuses one that no part can hold.
-fn narrow_span(indices: &[u32], k: usize) -> Result<Span, CutFault>
-    requires { k < length indices.now / 3 }
-    ensures { result ≡ spans.if_narrow k (spans.span_of (slice_index_or (triples indices.now) k (tri 0 0 0))) }
+/// The first triangle that no part can hold.
+fn first_too_wide(triangles: &[[u32; 3]]) -> Option<usize>
+    ensures { result ≡ position is_wide triangles.now }
 {
-    let span = Span::of_triangle(indices, k);
-    if !span.fits() {
-        return Err(CutFault::Span(k));
-    }
-    Ok(span)
+    triangles
+        .iter()
+        .position(|triangle| !Span::of_triangle(*triangle).fits())
 }
 
 /// How many runs the triangles make. Refuses where no part can hold one of them.
-fn count_runs(indices: &[u32]) -> Result<usize, CutFault>
-    ensures { result ≡ run_count (triples indices.now) }
+fn count_runs(triangles: &[[u32; 3]]) -> Result<usize, CutFault>
+    ensures { result ≡ run_count (map named triangles.now) }
 {
-    let triangles = indices.len() / 3;
-    if triangles == 0 {
-        return Ok(0);
+    match first_too_wide(triangles) {
+        Some(k) => Err(CutFault::Span(k)),
+        None => Ok(Runs(triangles).count()),
     }
-    let mut run = narrow_span(indices, 0)?;
-    let mut count = 1;
-    for k in 1..triangles {
-        let own = narrow_span(indices, k)?;
-        let wider = run.joined(own);
-        if wider.fits() {
-            run = wider;
-        } else {
-            run = own;
-            count += 1;
-        }
-    }
-    Ok(count)
 }
 
 /// Writes each run as a part: its vertices from the least to the greatest index, and its indices less by the least.
-fn write_runs(source: &[u32], texture_id: TextureId, indices: &mut [u16], parts: &mut [Part])
-    requires narrow { AllByRecursion Narrow (triples source.now) }
-    requires space { length source.now ≤ length indices.old }
-    requires table { length parts.old ≡ length (cut (triples source.now)) }
-    ensures lowers { indices.new ≡ on_front (lowered (cut (triples source.now))) indices.old }
-    ensures lists { parts.new ≡ parts_from 0 texture_id (cut (triples source.now)) }
+fn write_runs(
+    triangles: &[[u32; 3]],
+    texture_id: TextureId,
+    indices: &mut [u16],
+    parts: &mut [Part],
+)
+    requires narrow { AllByRecursion Narrow (map named triangles.now) }
+    requires space { 3 * length triangles.now ≤ length indices.old }
+    requires table { length (cut (map named triangles.now)) ≤ length parts.old }
+    ensures lowers { indices.new ≡ on_front (lowered (cut (map named triangles.now))) indices.old }
+    ensures lists { parts.new ≡ on_front (parts_from 0 texture_id (cut (map named triangles.now))) parts.old }
 {
-    let triangles = source.len() / 3;
-    let mut first = 0;
+    let mut runs = Runs(triangles);
+    let mut first_index = 0;
+    // Not a `zip` of the parts and the runs: over one nothing is known of what was written.
     for part in parts.iter_mut() {
-        let mut span = Span::of_triangle(source, first);
-        let mut end = first + 1;
-        'run: while end < triangles {
-            let wider = span.joined(Span::of_triangle(source, end));
-            if !wider.fits() {
-                break 'run;
-            }
-            span = wider;
-            end += 1;
-        }
-        let (from, to) = (3 * first, 3 * end);
-        lower(&source[from..to], span.least, &mut indices[from..to]);
+        let Some(run) = runs.next() else {
+            break;
+        };
+        let source = indices_of(run.triangles);
+        let end = first_index + source.len();
+        lower(source, run.span.least, &mut indices[first_index..end]);
         *part = Part {
-            first_vertex: span.least as usize,
-            vertex_count: span.width(),
-            first_index: from,
-            index_count: to - from,
+            first_vertex: run.span.least as usize,
+            vertex_count: run.span.width(),
+            first_index,
+            index_count: source.len(),
             texture_id,
         };
-        first = end;
+        first_index = end;
     }
 }
 
@@ -136,9 +122,10 @@ fn split_runs(mesh: &Finished, indices: &mut [u16], parts: &mut [Part]) -> Resul
     ensures { left result indices.new parts.new ≡ in_runs (finished_state mesh.now) indices.old parts.old }
 {
     let source = mesh.indices();
-    let count = count_runs(source)?;
+    let (triangles, _) = source.as_chunks::<3>();
+    let count = count_runs(triangles)?;
     check_space(source.len(), count, indices, parts)?;
-    write_runs(source, mesh.texture_id(), indices, &mut parts[0..count]);
+    write_runs(triangles, mesh.texture_id(), indices, parts);
     Ok(count)
 }
 
@@ -156,8 +143,7 @@ pub fn split_to_u16(
     ensures complete { Complete (finished_state mesh.now) (left result indices.new parts.new) }
     ensures faithful { Faithful (finished_state mesh.now) (left result indices.new parts.new) }
 {
-    let whole = mesh.vertices().len() <= MAX_SPAN;
-    if whole {
+    if mesh.vertices().len() <= MAX_SPAN {
         split_whole(mesh, indices, parts)
     } else {
         split_runs(mesh, indices, parts)

@@ -4,4 +4,5 @@
 pub mod cut;
 pub mod fault;
 pub mod part;
+mod run;
 mod span;

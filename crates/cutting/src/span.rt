@@ -1,6 +1,5 @@
 //! The span of indices.
-ghost use Rattle.std.specs.Prelude.{◌≡◌, ◌/◌, ◌<◌, ◌≤◌, length, slice_index_or};
-ghost use Rattle.tessellator.specs.Triangles.{tri, triples};
+ghost use Rattle.std.specs.Prelude.{◌≡◌};
 ghost use Rattle.cutting.specs.Spans as spans;
 
 /// The most vertices that a part has.
@@ -14,12 +13,11 @@ pub(crate) struct Span {
 }
 
 impl Span {
-    /// The span of a triangle, by its number.
-    pub(crate) fn of_triangle(indices: &[u32], k: usize) -> Span
-        requires { k < length indices.now / 3 }
-        ensures { result ≡ spans.span_of (slice_index_or (triples indices.now) k (tri 0 0 0)) }
+    /// The span of a triangle.
+    pub(crate) fn of_triangle(triangle: [u32; 3]) -> Span
+        ensures { result ≡ spans.span_of (spans.named triangle) }
     {
-        let (x, y, z) = (indices[3 * k], indices[3 * k + 1], indices[3 * k + 2]);
+        let [x, y, z] = triangle;
         Span {
             least: x.min(y.min(z)),
             greatest: x.max(y.max(z)),
@@ -38,15 +36,13 @@ impl Span {
 
     /// How many vertices there are from the least to the greatest.
     pub(crate) fn width(self) -> usize
-        requires { self.least ≤ self.greatest }
         ensures { result ≡ spans.width self }
     {
-        (self.greatest - self.least) as usize + 1
+        self.greatest.saturating_sub(self.least) as usize + 1
     }
 
     /// Whether a part can hold them.
     pub(crate) fn fits(self) -> bool
-        requires { self.least ≤ self.greatest }
         ensures { result ≡ spans.narrow self }
     {
         self.width() <= MAX_SPAN

@@ -9,7 +9,7 @@ use Rattle.drawing_file.specs.Faults.{Cause, heard}
 use Rattle.drawing_file.specs.Format.{First, Item, line, paint, first_of}
 use Rattle.drawing_file.specs.Laws.{Undrawn, Leaves}
 use Rattle.drawing_file.specs.Replaced.{Replaced, replaced}
-use Rattle.drawing_file.specs.Runs.{RunState, Then, then, Halt, after_line, after_stroke, stroked, faulted, painted, stepped, after_step, after_reading, first_run, turn, along, first_figure, at_byte}
+use Rattle.drawing_file.specs.Runs.{RunState, Then, answered, Halt, after_line, after_stroke, stroked, faulted, painted, stepped, after_step, after_reading, first_run, turn, along, first_figure, at_byte}
 use Rattle.drawing_file.specs.Solids.{solid_outcome}
 use Rattle.drawing_file.specs.Values.{paint_of}
 use Rattle.drawing_file.specs.declared.decode.Paint.{Paint}
@@ -84,10 +84,10 @@ turned (Err why) s t same less ran go = (ran.0, λ _. sym ran.1)
 abbrev Left : RunState → Then (Result (Option Figure) Halt) → Type 0
 Left s x = Leaves x.answer s x.state
 
-at_the_end : (s : RunState) → length s.rest ≤ 0 → Left s (then (Ok None) s)
+at_the_end : (s : RunState) → length s.rest ≤ 0 → Left s (answered (Ok None) s)
 at_the_end s h = (record { mesh = refl; figures = refl }, nil_from_length s.rest (omega arith))
 
-pub leaves : (s t : RunState) (r : Result (Option Figure) Halt) → then r t ≡ along first_figure s → Leaves r s t
+pub leaves : (s t : RunState) (r : Result (Option Figure) Halt) → answered r t ≡ along first_figure s → Leaves r s t
 leaves s t r e =
     subst (Left s) (sym e)
     (all_along Left at_the_end (λ u some go. turned (first_run u).answer u (first_run u).state (same_size u) (shrinks u) (first_ran u) go) s)

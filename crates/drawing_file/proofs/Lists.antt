@@ -4,7 +4,7 @@ use Rattle.tessellator.specs.declared.fault.Appended.{Appended}
 use Rattle.drawing_file.specs.Faults.{Cause}
 use Rattle.drawing_file.specs.Format.{First, first_of}
 use Rattle.drawing_file.specs.Laws.{listing, listed, before, Heads}
-use Rattle.drawing_file.specs.Runs.{RunState, Then, then, Halt, stepped, after_step, after_reading, first_run, turn, along, first_figure, at_byte}
+use Rattle.drawing_file.specs.Runs.{RunState, Then, answered, Halt, stepped, after_step, after_reading, first_run, turn, along, first_figure, at_byte}
 use Rattle.drawing_file.specs.declared.runner.Figure.{Figure}
 use Rattle.drawing_file.proofs.Turns.{step_keeps, at_end, one_turn, whole, all_along}
 
@@ -32,7 +32,7 @@ turned at (Err why) t h go = refl
 abbrev Listed : RunState → Then (Result (Option Figure) Halt) → Type 0
 Listed s x = s.size ≤ 49152 → Heads x.answer (along listing s) x.state
 
-list_ends : (s : RunState) → length s.rest ≤ 0 → Listed s (then (Ok None) s)
+list_ends : (s : RunState) → length s.rest ≤ 0 → Listed s (answered (Ok None) s)
 list_ends s h short = at_end listing s h
 
 list_turns : (s : RunState) → 0 < length s.rest → ((first_run s).answer ≡ Ok None → Listed (first_run s).state (along first_figure (first_run s).state)) →
@@ -43,7 +43,7 @@ list_turns s some go short =
     subst (λ l. Heads first.answer l first.state) (sym (one_turn listing s some))
     (turned (at_byte s) (first_run s).answer (first_run s).state still (λ e. go e still))
 
-pub heads : (s t : RunState) (r : Result (Option Figure) Halt) → s.size ≤ 49152 → then r t ≡ along first_figure s → Heads r (listed s) t
+pub heads : (s t : RunState) (r : Result (Option Figure) Halt) → s.size ≤ 49152 → answered r t ≡ along first_figure s → Heads r (listed s) t
 heads s t r short e =
     let along-s : Heads (along first_figure s).answer (along listing s) (along first_figure s).state = all_along Listed list_ends list_turns s short in
     subst (λ (x : Then (Result (Option Figure) Halt)). Heads x.answer (listed s) x.state) (sym e)

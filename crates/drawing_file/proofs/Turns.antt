@@ -9,7 +9,7 @@ use Rattle.drawing_file.specs.Format.{First, Item, line, paint, followed, first_
 use Rattle.drawing_file.specs.Replaced.{Replaced, replaced}
 use Rattle.drawing_file.specs.Solids.{solid_outcome}
 use Rattle.drawing_file.specs.Values.{paint_of}
-use Rattle.drawing_file.specs.Runs.{RunState, Then, then, after_line, after_stroke, stroked, faulted, painted, stepped, after_step, after_reading, first_run, Account, turn, records, along, file, first_figure, at_byte, Halt}
+use Rattle.drawing_file.specs.Runs.{RunState, Then, answered, after_line, after_stroke, stroked, faulted, painted, stepped, after_step, after_reading, first_run, Account, turn, records, along, file, first_figure, at_byte, Halt}
 use Rattle.drawing_file.specs.declared.decode.Paint.{Paint}
 use Rattle.drawing_file.specs.declared.fault.FileFault.TheVariants.{CutShort, FilledOpenLine}
 use Rattle.drawing_file.specs.declared.fault.Layer.TheVariants as layer
@@ -65,7 +65,7 @@ step_keeps s (paint b) = paint_keeps s.waiting s (paint_of b)
 
 -- the bytes after a record are fewer than those that running it left
 pub passes : (s t : RunState) (i : Item) (after : List ℕ) (answer : Result (Option Appended) Cause) →
-    Ok (record { item = i; after = after }) ≡ first_of s.rest → then answer t ≡ stepped s i → length after < length t.rest
+    Ok (record { item = i; after = after }) ≡ first_of s.rest → answered answer t ≡ stepped s i → length after < length t.rest
 passes s t i after answer read ran =
     let kept : t.rest ≡ s.rest = ap (λ (x : Then (Result (Option Appended) Cause)). x.state.rest) ran ∙ (step_keeps s i).rest in
     omega (arith, ap length kept, first_shrinks s.rest (record { item = i; after = after }) (sym read))
@@ -119,26 +119,26 @@ module _ {B : Type 0} (account : Account B) where
       (λ a e. let less = shrinks s a e in enough n (length (first_run s).state.rest) (first_run s).state (omega arith) (omega arith))
 
   -- the same, by what the run of the record answered and left
-  pub goes_on : (s t : RunState) (r : Result (Option Figure) Cause) → 0 < length s.rest → then r t ≡ first_run s → along account s ≡ turn account (along account) (at_byte s) r t
+  pub goes_on : (s t : RunState) (r : Result (Option Figure) Cause) → 0 < length s.rest → answered r t ≡ first_run s → along account s ≡ turn account (along account) (at_byte s) r t
   goes_on s t r h e = one_turn s h ∙ ap (λ (x : Then (Result (Option Figure) Cause)). turn account (along account) (at_byte s) x.answer x.state) (sym e)
 
-  pub quiet : (s t : RunState) (a : Option Figure) → 0 < length s.rest → a ≡ None → then (Ok a) t ≡ first_run s → along account t ≡ along account s
+  pub quiet : (s t : RunState) (a : Option Figure) → 0 < length s.rest → a ≡ None → answered (Ok a) t ≡ first_run s → along account t ≡ along account s
   quiet s t a h none e = sym (goes_on s t (Ok a) h e ∙ ap (λ x. turn account (along account) (at_byte s) (Ok x) t) none)
 
-  pub at_figure : (s t : RunState) (a : Option Figure) (figure : Figure) → 0 < length s.rest → a ≡ Some figure → then (Ok a) t ≡ first_run s → account.figure figure t (along account t) ≡ along account s
+  pub at_figure : (s t : RunState) (a : Option Figure) (figure : Figure) → 0 < length s.rest → a ≡ Some figure → answered (Ok a) t ≡ first_run s → account.figure figure t (along account t) ≡ along account s
   at_figure s t a figure h some e = sym (goes_on s t (Ok a) h e ∙ ap (λ x. turn account (along account) (at_byte s) (Ok x) t) some)
 
   -- of a file that is not too long
   pub whole : (s : RunState) → s.size ≤ 49152 → along account s ≡ file account s
   whole s h = sym (cond-false (ltb 49152 s.size) _ _ (le-ltb 49152 s.size h))
 
-pub fewer : (s t : RunState) (a : Option Figure) → then (Ok a) t ≡ first_run s → length t.rest < length s.rest
+pub fewer : (s t : RunState) (a : Option Figure) → answered (Ok a) t ≡ first_run s → length t.rest < length s.rest
 fewer s t a e =
     omega (arith, shrinks s a (sym (ap (λ (x : Then (Result (Option Figure) Cause)). x.answer) e)), ap (λ (x : Then (Result (Option Figure) Cause)). length x.state.rest) e)
 
 -- what holds at the end, and goes on over a record that drew nothing, holds of the first figure
 module _ (P : RunState → Then (Result (Option Figure) Halt) → Type 0)
-    (end : (s : RunState) → length s.rest ≤ 0 → P s (then (Ok None) s))
+    (end : (s : RunState) → length s.rest ≤ 0 → P s (answered (Ok None) s))
     (step : (s : RunState) → 0 < length s.rest → ((first_run s).answer ≡ Ok None → P (first_run s).state (along first_figure (first_run s).state)) → P s (turn first_figure (along first_figure) (at_byte s) (first_run s).answer (first_run s).state)) where
   by_turns : (n : ℕ) (s : RunState) → length s.rest ≤ n → P s (along first_figure s)
   by_turns zero s h = subst (P s) (sym (at_end first_figure s h)) (end s h)

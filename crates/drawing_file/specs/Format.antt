@@ -3,6 +3,7 @@ use Rattle.std.specs.Prelude.{◌≡◌, ℕ, ◌+◌, ◌*◌, ◌/◌, ◌%◌
 use Rattle.drawing_file.specs.Faults.{Cause, cause_of}
 use Rattle.drawing_file.specs.declared.fault.FileFault.{FileFault}
 use Rattle.drawing_file.specs.declared.fault.FileFault.TheVariants.{CutShort, UnknownTag, WrongLength, UnknownKind}
+use Rattle.drawing_file.specs.declared.paint.PaintBytes.{PaintBytes}
 use Rattle.drawing_file.specs.declared.record.Record.{Record}
 use Rattle.drawing_file.specs.declared.record.Record.TheVariants.{Line, Paint}
 use Rattle.drawing_file.specs.declared.record.Reading.{Reading}
@@ -13,7 +14,7 @@ pub data Item : Type 0 where
 
 abbrev pub item : Record → Item
 item (Line b) = line b.now
-item (Paint b) = paint b.now
+item (Paint p) = paint p.bytes.now
 
 abbrev pub read : Result Record FileFault → Result Item Cause
 read (Ok r) = Ok (item r)
@@ -27,14 +28,17 @@ line_of b = if length b % 8 == 0 then Ok (line b) else Err (cause_of WrongLength
 abbrev pub painting : List ℕ → Result Item Cause
 painting b = if length b == 17 then (if nat_lt 2 (slice_index b 16) then Err (cause_of UnknownKind) else Ok (paint b)) else Err (cause_of WrongLength)
 
+-- a paint's own bytes, of which the last says a kind
+abbrev pub known_paint : List ℕ → Result Item Cause
+known_paint b = if nat_lt 2 (slice_index b 16) then Err (cause_of UnknownKind) else Ok (paint b)
+
+abbrev pub paint_read : Result PaintBytes FileFault → Result Item Cause
+paint_read (Ok p) = Ok (paint p.bytes.now)
+paint_read (Err fault) = Err (cause_of fault)
+
 -- the record of a tag and its bytes
 abbrev pub sorted : ℕ → List ℕ → Result Item Cause
 sorted tag b = if tag == 2 then line_of b else if tag == 5 then painting b else Err (cause_of UnknownTag)
-
--- a paint has all its bytes
-abbrev pub Whole : Item → Type 0
-Whole (line b) = Unit {0}
-Whole (paint b) = length b ≡ 17
 
 -- a first record, and the bytes after it
 pub record First : Type 0 where

@@ -21,6 +21,10 @@ remains r path places = record { line = left r path; places = places }
 abbrev pub crowding : List ℕ → PathFault
 crowding b = if all_places (places_of b) then (if nat_lt (length b) 16 then TooFewPoints else NoSpace) else OutOfLimits
 
+-- the same, by the places
+abbrev pub crowded : List Pos2 → PathFault
+crowded ps = if all_places ps then (if nat_lt (length ps) 2 then TooFewPoints else NoSpace) else OutOfLimits
+
 abbrev pub replaced : List ℕ → Held PathPoint → List Pos2 → Replaced
 replaced b path memory =
     if nat_lt (length memory) (length b / 8)

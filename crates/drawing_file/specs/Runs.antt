@@ -37,7 +37,7 @@ run_state r = record {
   rest = r.rest.now;
   size = r.size;
   path = held r.path.now;
-  places = r.places.memory.now;
+  places = r.places.now;
   mesh = mesh_state r.mesh.now;
   waiting = r.waiting;
   figures = r.figures;
@@ -64,8 +64,8 @@ pub record Then (A : Type 0) : Type 0 where
   pub answer : A
   pub state : RunState
 
-abbrev pub then : {A : Type 0} → A → RunState → Then A
-then a s = record { answer = a; state = s }
+abbrev pub answered : {A : Type 0} → A → RunState → Then A
+answered a s = record { answer = a; state = s }
 
 -- what a record changes before it is passed
 abbrev pub made : RunState → Held PathPoint → List Pos2 → MeshState → Waiting → RunState
@@ -81,22 +81,22 @@ made s path places mesh waiting = record {
 
 -- A line replaces the path. Where it is refused, the path is empty and nothing waits.
 abbrev pub after_line : Result (Unit {0}) Cause → RunState → Replaced → Then (Result (Option Appended) Cause)
-after_line (Ok t) s l = then (Ok None) (made s l.line.path l.places s.mesh OpenLine)
-after_line (Err why) s l = then (Err why) (made s l.line.path l.places s.mesh Nothing)
+after_line (Ok t) s l = answered (Ok None) (made s l.line.path l.places s.mesh OpenLine)
+after_line (Err why) s l = answered (Err why) (made s l.line.path l.places s.mesh Nothing)
 
 abbrev pub lined : RunState → Replaced → Then (Result (Option Appended) Cause)
 lined s l = after_line (heard layer.Path l.line.answer) s l
 
 -- paint uses the path up
 abbrev pub after_stroke : Result Appended Cause → RunState → Outcome → Then (Result (Option Appended) Cause)
-after_stroke (Ok size) s o = then (Ok (Some size)) (made s (emptied o.path) s.places o.mesh Nothing)
-after_stroke (Err why) s o = then (Err why) (made s o.path s.places o.mesh s.waiting)
+after_stroke (Ok size) s o = answered (Ok (Some size)) (made s (emptied o.path) s.places o.mesh Nothing)
+after_stroke (Err why) s o = answered (Err why) (made s o.path s.places o.mesh s.waiting)
 
 abbrev pub stroked : RunState → Outcome → Then (Result (Option Appended) Cause)
 stroked s o = after_stroke (heard layer.Figure o.answer) s o
 
 abbrev pub faulted : FileFault → RunState → Then (Result (Option Appended) Cause)
-faulted fault s = then (Err (cause_of fault)) s
+faulted fault s = answered (Err (cause_of fault)) s
 
 abbrev pub painted : Waiting → RunState → Paint → Then (Result (Option Appended) Cause)
 painted Nothing s p = faulted PaintWithoutPath s
@@ -124,13 +124,13 @@ passed s after figures = record {
 
 -- a record that is refused is not passed
 abbrev pub after_step : Result (Option Appended) Cause → RunState → List ℕ → Then (Result (Option Figure) Cause)
-after_step (Ok None) s after = then (Ok None) (passed s after s.figures)
-after_step (Ok (Some size)) s after = then (Ok (Some (record { number = s.figures + 1; size = size }))) (passed s after (s.figures + 1))
-after_step (Err why) s after = then (Err why) s
+after_step (Ok None) s after = answered (Ok None) (passed s after s.figures)
+after_step (Ok (Some size)) s after = answered (Ok (Some (record { number = s.figures + 1; size = size }))) (passed s after (s.figures + 1))
+after_step (Err why) s after = answered (Err why) s
 
 abbrev pub after_reading : Result First Cause → RunState → Then (Result (Option Figure) Cause)
 after_reading (Ok f) s = after_step (stepped s f.item).answer (stepped s f.item).state f.after
-after_reading (Err why) s = then (Err why) s
+after_reading (Err why) s = answered (Err why) s
 
 -- the first record is run: a paint answers its figure
 abbrev pub first_run : RunState → Then (Result (Option Figure) Cause)
@@ -180,9 +180,9 @@ file account s = if nat_lt 49152 s.size then account.refusal too_long s else alo
 -- the first figure, or the end or the refusal before it
 abbrev pub first_figure : Account (Then (Result (Option Figure) Halt))
 first_figure = record {
-  end = λ s. then (Ok None) s;
-  figure = λ figure s _. then (Ok (Some figure)) s;
-  refusal = λ halt s. then (Err halt) s;
+  end = λ s. answered (Ok None) s;
+  figure = λ figure s _. answered (Ok (Some figure)) s;
+  refusal = λ halt s. answered (Err halt) s;
 }
 
 abbrev pub next : RunState → Then (Result (Option Figure) Halt)

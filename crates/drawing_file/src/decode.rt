@@ -1,8 +1,11 @@
 //! The values in the bytes of a record.
-ghost use Rattle.std.specs.Prelude.{◌≡◌, ◌+◌, ◌/◌, ◌≤◌, ◌++◌, length, drop};
-ghost use Rattle.emath.specs.Limits.{all_places};
-ghost use Rattle.drawing_file.specs.Values.{fraction, place, places_of, color, kind, paint_of};
+ghost use Rattle.std.specs.Prelude.{◌≡◌, ◌≤◌, ◌++◌, map, length, drop};
+ghost use Rattle.std.specs.List.{list_all};
+ghost use Rattle.emath.specs.Limits as limits;
+ghost use Rattle.drawing_file.specs.Faults.{told};
+ghost use Rattle.drawing_file.specs.Values.{fraction, place, first_place, color, known_kind};
 
+use crate::fault::FileFault;
 use ecolor::color::Color32;
 use ecolor::rule::Solid;
 use emath::limits::is_place;
@@ -19,86 +22,55 @@ pub struct Paint {
 }
 
 /// Four bytes, high byte first. Every pattern has a value.
-fn fraction_at(bytes: &[u8], i: usize) -> f32
-    requires { i + 4 ≤ length bytes.now }
-    ensures { result ≡ fraction bytes.now i }
+pub(crate) fn fraction_of(bytes: [u8; 4]) -> f32
+    ensures { result ≡ fraction bytes 0 }
 {
-    num::f32_from_bits_with_nan(u32::from_be_bytes([
-        bytes[i],
-        bytes[i + 1],
-        bytes[i + 2],
-        bytes[i + 3],
-    ]))
+    num::f32_from_bits_with_nan(u32::from_be_bytes(bytes))
 }
 
-fn place_at(bytes: &[u8], i: usize) -> Pos2
-    requires { i + 8 ≤ length bytes.now }
-    ensures { result ≡ place bytes.now i }
+fn place_of(bytes: [u8; 8]) -> Pos2
+    ensures { result ≡ place bytes 0 }
 {
+    let [x0, x1, x2, x3, y0, y1, y2, y3] = bytes;
     Pos2 {
-        x: fraction_at(bytes, i),
-        y: fraction_at(bytes, i + 4),
+        x: fraction_of([x0, x1, x2, x3]),
+        y: fraction_of([y0, y1, y2, y3]),
     }
 }
 
-/// Reads the places of a line, eight bytes each, into the front of `out`.
-pub(crate) fn read_places(body: &[u8], out: &mut [Pos2])
-    requires { length body.now / 8 ≤ length out.old }
-    ensures { out.new ≡ places_of body.now ++ drop (length body.now / 8) out.old }
+/// Reads the places of a line into the front of `out`.
+pub(crate) fn read_places(places: &[[u8; 8]], out: &mut [Pos2])
+    requires { length places.now ≤ length out.old }
+    ensures { out.new ≡ map first_place places.now ++ drop (length places.now) out.old }
 {
-    for i in 0..body.len() / 8 {
-        out[i] = place_at(body, 8 * i);
+    // By number: over `out.iter_mut().zip(places)` nothing is known of what was written.
+    for (i, bytes) in places.iter().enumerate() {
+        out[i] = place_of(*bytes);
     }
 }
 
 /// Whether every place of a line is within its limits.
-pub(crate) fn all_within(body: &[u8]) -> bool
-    ensures { result ≡ all_places (places_of body.now) }
+pub(crate) fn all_within(places: &[[u8; 8]]) -> bool
+    ensures { result ≡ list_all (λ bytes. limits.is_place (first_place bytes)) places.now }
 {
-    for i in 0..body.len() / 8 {
-        if !is_place(place_at(body, 8 * i)) {
-            return false;
-        }
-    }
-    true
+    places.iter().all(|bytes| is_place(place_of(*bytes)))
 }
 
-fn color_at(bytes: &[u8], i: usize) -> Color32
-    requires { i + 4 ≤ length bytes.now }
-    ensures { result ≡ color bytes.now i }
+pub(crate) fn color_of(bytes: [u8; 4]) -> Color32
+    ensures { result ≡ color bytes 0 }
 {
-    Color32 {
-        r: bytes[i],
-        g: bytes[i + 1],
-        b: bytes[i + 2],
-        a: bytes[i + 3],
-    }
+    let [r, g, b, a] = bytes;
+    Color32 { r, g, b, a }
 }
 
-fn kind_of(byte: u8) -> StrokeKind
-    ensures { result ≡ kind byte }
+/// The kind that a byte says. No other byte says one.
+pub(crate) fn kind_of(byte: u8) -> Result<StrokeKind, FileFault>
+    ensures { told result ≡ known_kind byte }
 {
     match byte {
-        0 => StrokeKind::Inside,
-        1 => StrokeKind::Middle,
-        _ => StrokeKind::Outside,
-    }
-}
-
-/// A paint record's 17 bytes.
-pub(crate) fn paint_of(body: &[u8]) -> Paint
-    requires { 17 ≤ length body.now }
-    ensures { result ≡ paint_of body.now }
-{
-    Paint {
-        fill: color_at(body, 0),
-        stroke: PathStroke {
-            width: fraction_at(body, 8),
-            color: Solid {
-                color: color_at(body, 4),
-            },
-            kind: kind_of(body[16]),
-        },
-        feathering: fraction_at(body, 12),
+        0 => Ok(StrokeKind::Inside),
+        1 => Ok(StrokeKind::Middle),
+        2 => Ok(StrokeKind::Outside),
+        _ => Err(FileFault::UnknownKind),
     }
 }

@@ -5,7 +5,6 @@ mod decode;
 pub mod fault;
 mod line;
 pub mod listing;
-mod places;
+pub mod paint;
 pub mod record;
 pub mod runner;
-mod solid;

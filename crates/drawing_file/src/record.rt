@@ -3,12 +3,13 @@ ghost use Rattle.std.specs.Prelude.{◌≡◌};
 ghost use Rattle.drawing_file.specs.Format.{read, sorted, reading, first_of, Fronts};
 
 use crate::fault::FileFault;
+use crate::paint::PaintBytes;
 
 /// Each holds its bytes as a part of the file.
 #[derive(Clone, Copy)]
 pub enum Record<'a> {
     Line(&'a [u8]),
-    Paint(&'a [u8]),
+    Paint(PaintBytes<'a>),
 }
 
 /// A record, and the bytes after it.
@@ -21,17 +22,13 @@ pub struct Reading<'a> {
 fn record_of<'a>(tag: u8, body: &'a [u8]) -> Result<Record<'a>, FileFault>
     ensures { read result ≡ sorted tag body.now }
 {
-    let n = body.len();
     match tag {
-        2 if n % 8 == 0 => Ok(Record::Line(body)),
-        5 if n == 17 => {
-            if body[16] > 2 {
-                Err(FileFault::UnknownKind)
-            } else {
-                Ok(Record::Paint(body))
-            }
+        2 if body.len() % 8 == 0 => Ok(Record::Line(body)),
+        2 => Err(FileFault::WrongLength),
+        5 => {
+            let bytes = body.as_array().ok_or(FileFault::WrongLength)?;
+            Ok(Record::Paint(PaintBytes::try_from(bytes)?))
         }
-        2 | 5 => Err(FileFault::WrongLength),
         _ => Err(FileFault::UnknownTag),
     }
 }
@@ -44,13 +41,12 @@ pub fn next_record<'a>(bytes: &'a [u8]) -> Result<Reading<'a>, FileFault>
     let [tag, high, low, body @ ..] = bytes else {
         return Err(FileFault::CutShort);
     };
-    let n = *high as usize * 256 + *low as usize;
-    if body.len() < n {
-        return Err(FileFault::CutShort);
+    let n = usize::from(u16::from_be_bytes([*high, *low]));
+    match body.split_at_checked(n) {
+        Some((body, rest)) => Ok(Reading {
+            record: record_of(*tag, body)?,
+            rest,
+        }),
+        None => Err(FileFault::CutShort),
     }
-    let (body, rest) = body.split_at(n);
-    Ok(Reading {
-        record: record_of(*tag, body)?,
-        rest,
-    })
 }

@@ -2,14 +2,14 @@
 ghost use Rattle.std.specs.Prelude.{◌+◌, ◌<◌, ◌≤◌, length};
 
 use crate::fault::FileFault;
-use crate::places::Places;
+use emath::plane::Pos2;
 use path::path::Path;
 use tessellator::fault::Appended;
 use tessellator::mesh::Mesh;
 
 pub mod run;
 
-/// What waits for paint.
+/// What waits for paint. The line itself stands in the path, so that an `Option` would hold nothing more.
 #[derive(Clone, Copy)]
 pub enum Waiting {
     Nothing,
@@ -36,7 +36,7 @@ pub struct Runner<'r, 'a> {
     rest: &'r [u8],
     size: usize,
     path: &'r mut Path<'a>,
-    places: Places<'r>,
+    places: &'r mut [Pos2],
     mesh: &'r mut Mesh<'a>,
     waiting: Waiting,
     figures: usize,

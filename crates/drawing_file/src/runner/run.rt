@@ -3,20 +3,20 @@ ghost use Rattle.std.specs.Prelude.{◌≡◌};
 ghost use Rattle.path.specs.Held.{held};
 ghost use Rattle.tessellator.specs.State.{mesh_state};
 ghost use Rattle.drawing_file.specs.Faults.{told};
-ghost use Rattle.drawing_file.specs.Format.{item, Whole};
+ghost use Rattle.drawing_file.specs.Format.{item};
 ghost use Rattle.drawing_file.specs.Laws.{Heads, Leaves, listed};
-ghost use Rattle.drawing_file.specs.Runs.{run_state, started, then, stepped, first_run, told_at, along, first_figure, next};
+ghost use Rattle.drawing_file.specs.Runs.{run_state, started, answered, stepped, first_run, told_at, along, first_figure, next};
 
 use super::{Figure, Refusal, Runner, Waiting};
+use crate::decode::Paint;
 use crate::fault::FileFault;
-use crate::places::Places;
 use crate::record::Record;
-use crate::solid::stroke_solid;
-use crate::{decode, line, record};
+use crate::{line, record};
 use emath::plane::Pos2;
 use path::path::Path;
 use tessellator::fault::Appended;
 use tessellator::mesh::Mesh;
+use tessellator::stroke::open::stroke_open;
 
 /// The most bytes that a file may have.
 const MAX_BYTES: usize = 49_152;
@@ -35,7 +35,7 @@ impl<'r, 'a> Runner<'r, 'a> {
             rest: bytes,
             size: bytes.len(),
             path,
-            places: Places { memory: places },
+            places,
             mesh,
             waiting: Waiting::Nothing,
             figures: 0,
@@ -43,24 +43,24 @@ impl<'r, 'a> Runner<'r, 'a> {
     }
 
     /// Runs one record. A paint answers the size of its figure.
+    #[tactic(auto, unfolding(crate::specs::Solids::solid_outcome))]
     fn step(&mut self, record: Record) -> Result<Option<Appended>, FileFault>
-        requires { Whole (item «record») }
-        ensures { then (told result) (run_state self.new) ≡ stepped (run_state self.old) (item «record».entry) }
+        ensures { answered (told result) (run_state self.new) ≡ stepped (run_state self.old) (item «record».entry) }
     {
         match (self.waiting, record) {
             (_, Record::Line(body)) => {
                 self.waiting = Waiting::Nothing;
-                line::replace(self.path, &mut self.places, body)?;
+                line::replace(self.path, self.places, body)?;
                 self.waiting = Waiting::OpenLine;
                 Ok(None)
             }
             (Waiting::Nothing, Record::Paint(_)) => Err(FileFault::PaintWithoutPath),
-            (Waiting::OpenLine, Record::Paint(body)) => {
-                let paint = decode::paint_of(body);
+            (Waiting::OpenLine, Record::Paint(bytes)) => {
+                let paint = Paint::from(bytes);
                 if !paint.fill.is_transparent() {
                     return Err(FileFault::FilledOpenLine);
                 }
-                let size = stroke_solid(self.path, paint.feathering, &paint.stroke, self.mesh)?;
+                let size = stroke_open(self.path, paint.feathering, &paint.stroke, self.mesh)?;
                 self.path.clear();
                 self.waiting = Waiting::Nothing;
                 Ok(Some(size))
@@ -70,33 +70,28 @@ impl<'r, 'a> Runner<'r, 'a> {
 
     /// Runs the first record that is not read yet.
     fn run_first(&mut self) -> Result<Option<Figure>, FileFault>
-        ensures { then (told result) (run_state self.new) ≡ first_run (run_state self.old) }
+        ensures { answered (told result) (run_state self.new) ≡ first_run (run_state self.old) }
     {
         let reading = record::next_record(self.rest)?;
         let drawn = self.step(reading.record)?;
         self.rest = reading.rest;
-        match drawn {
-            Some(size) => {
-                self.figures += 1;
-                let number = self.figures;
-                Ok(Some(Figure { number, size }))
-            }
-            None => Ok(None),
-        }
+        let Some(size) = drawn else {
+            return Ok(None);
+        };
+        self.figures += 1;
+        let number = self.figures;
+        Ok(Some(Figure { number, size }))
     }
 
     /// Runs records until one has drawn a figure.
     fn run_on(&mut self) -> Result<Option<Figure>, Refusal>
-        ensures { then (told_at result) (run_state self.new) ≡ along first_figure (run_state self.old) }
+        ensures { answered (told_at result) (run_state self.new) ≡ along first_figure (run_state self.old) }
     {
-        while self.rest.len() > 0 {
+        while !self.rest.is_empty() {
             let at = self.size - self.rest.len();
             match self.run_first() {
-                Ok(drawn) => {
-                    if let Some(figure) = drawn {
-                        return Ok(Some(figure));
-                    }
-                }
+                Ok(None) => {}
+                Ok(Some(figure)) => return Ok(Some(figure)),
                 Err(fault) => return Err(Refusal { fault, at }),
             }
         }
@@ -106,7 +101,7 @@ impl<'r, 'a> Runner<'r, 'a> {
     /// The next figure of the file, drawn. At the end of the file there is none.
     /// A refusal leaves the figures before it, and does not pass its record.
     pub fn next_figure(&mut self) -> Result<Option<Figure>, Refusal>
-        ensures run { then (told_at result) (run_state self.new) ≡ next (run_state self.old) }
+        ensures run { answered (told_at result) (run_state self.new) ≡ next (run_state self.old) }
         ensures list { Heads (told_at result) (listed (run_state self.old)) (run_state self.new) }
         ensures leaves { Leaves (told_at result) (run_state self.old) (run_state self.new) }
     {

@@ -1,37 +1,28 @@
-use Rattle.std.proofs.Common.{◌<◌, length, arith, rules}
-use Rattle.std.proofs.lemmas.List.{drop_all}
-use Rattle.tessellator.specs.Triangles.{triples}
-use Rattle.cutting.proofs.Counting.{counts_all, first_counts, refused_here, taken_here, begun_here}
-use Rattle.tessellator.proofs.Triples.{length-triples}
+use Rattle.std.proofs.Common.{◌≡◌, Some, None, map, length, refl, ap, ◌∙◌, inl, Ok, arith}
+use Rattle.std.proofs.lemmas.Iterator.Adapters.{position_from-zero}
+use Rattle.std.proofs.lemmas.Iterator.Consumers.{YieldsList-from_first, count_from_yields_List}
+use Rattle.std.proofs.lemmas.List.{length-map}
+use Rattle.cutting.specs.Cutting.{cut}
+use Rattle.cutting.specs.Outcome.{too_wide, counted}
+use Rattle.cutting.specs.Runs.{seen, runs_left, with_span}
+use Rattle.cutting.specs.Spans.{named, is_wide}
+use Rattle.cutting.proofs.Counting.{few_runs, too_wide_is}
 use Rattle.cutting.proofs.cut.count_runs.Goals as goal
-use Rattle.cutting.proofs.cut.count_runs.Goals.{then-fits, else-fits}
 
-pub loop-k-init : goal.loop-k-init
-loop-k-init c =
-    let ts = triples c.args.indices.now in
-    first_counts ts _ (omega (arith, length-triples c.args.indices.now)) c.in_ok-run.ensures
+pub count-requires-clause-fits : goal.count-requires-clause-fits
+count-requires-clause-fits c =
+    let ts = map named c.args.triangles.now in
+    inl (omega (arith, length-map (cut ts) with_span, few_runs ts, length-map c.args.triangles.now named, c.told-triangles))
 
-pub returns-in_err-own : goal.returns-in_err-own
-returns-in_err-own c =
-    let here = c.loop-k in
-    let ts = triples c.args.indices.now in
-    let h : here.k < length ts = omega (arith, length-triples c.args.indices.now) in
-    let e = refused_here ts here.k here.run here.count h here.invariant _ c.in_err-own.ensures in
-    search rules
+pub returns-in-Some : goal.returns-in-Some
+returns-in-Some c =
+    let ts = c.args.triangles.now in
+    let wide : Some c.in-Some.k ≡ too_wide 0 (map named ts) = c.in-Some.ensures ∙ position_from-zero is_wide ts ∙ too_wide_is 0 ts in
+    ap (λ o. counted o (length (cut (map named ts)))) wide
 
-pub loop-k-preserved : goal.loop-k-preserved
-loop-k-preserved c =
-    let here = c.loop-k in
-    let ts = triples c.args.indices.now in
-    let h : here.k < length ts = omega (arith, length-triples c.args.indices.now) in
-    elim c.if-fits.branch [
-      | then-fits w ↦ taken_here ts _ _ _ h here.invariant _ _ _ _ c.in_ok-own.ensures c.joined-wider.ensures w.if-fits.ensures w.run-is w.count-is
-      | else-fits w ↦ begun_here ts _ _ _ h here.invariant _ _ _ _ c.in_ok-own.ensures c.joined-wider.ensures w.if-fits.ensures w.run-is w.count-is
-    ]
-
-pub returns : goal.returns
-returns c =
-    let here = c.loop-k in
-    let ts = triples c.args.indices.now in
-    let end = drop_all here.k ts (omega (arith, length-triples c.args.indices.now)) in
-    counts_all (rw end at here.invariant)
+pub returns-in-None : goal.returns-in-None
+returns-in-None c =
+    let ts = c.args.triangles.now in
+    let none : None ≡ too_wide 0 (map named ts) = c.in-None.ensures ∙ position_from-zero is_wide ts ∙ too_wide_is 0 ts in
+    let all = count_from_yields_List _ _ c.count.ensures.ran (YieldsList-from_first seen runs_left _ refl) in
+    ap Ok (all ∙ length-map (cut (map named ts)) with_span) ∙ ap (λ o. counted o (length (cut (map named ts)))) none

@@ -1,26 +1,35 @@
-use Rattle.std.proofs.Common.{ap, ◌∙◌, arith, length-take, rules}
+use Rattle.std.proofs.Common.{map, length, ap, ◌∙◌, rules}
 use Rattle.tessellator.specs.State.{finished_state}
 use Rattle.tessellator.specs.Triangles.{triples}
 use Rattle.cutting.specs.Cutting.{cut}
+use Rattle.cutting.specs.Outcome.{on_front}
 use Rattle.cutting.specs.Parts.{parts_from}
+use Rattle.cutting.specs.Spans.{named}
+use Rattle.cutting.proofs.Chunks.{named_chunks}
 use Rattle.cutting.proofs.Finished.{proper}
-use Rattle.cutting.proofs.Splitting.{has_space, run_count_lem, runs_declined, runs_placed}
+use Rattle.cutting.proofs.Splitting.{run_count_lem, runs_refused, runs_declined, runs_placed}
 use Rattle.cutting.proofs.cut.split_runs.Goals as goal
+
+pub returns-in_err-count : goal.returns-in_err-count
+returns-in_err-count c =
+    let m = c.args.mesh.now in
+    let triangles = ap (map named) c.as_chunks.ensures.front ∙ named_chunks c.indices-source.result.now ∙ ap triples c.indices-source.ensures in
+    let e = runs_refused (finished_state m) _ c.args.indices.now c.args.parts.now triangles _ c.in_err-count.ensures in
+    search rules
 
 pub returns-in_err-check_space : goal.returns-in_err-check_space
 returns-in_err-check_space c =
     let m = c.args.mesh.now in
-    let e = runs_declined (finished_state m) _ _ _ _ c.indices-source.ensures (proper m) c.in_ok-count.ensures _ c.in_err-check_space.ensures in
+    let triangles = ap (map named) c.as_chunks.ensures.front ∙ named_chunks c.indices-source.result.now ∙ ap triples c.indices-source.ensures in
+    let e = runs_declined (finished_state m) _ _ _ triangles _ _ (ap length c.indices-source.ensures) (proper m) c.in_ok-count.ensures _ c.in_err-check_space.ensures in
     search rules
 
-pub write_runs-requires : goal.write_runs-requires
-write_runs-requires c =
-    let counts = run_count_lem _ _ c.in_ok-count.ensures in
-    let space = has_space _ _ _ _ _ c.in_ok-check_space.ensures in
-    record { narrow = counts.0; space = space.0; table = length-take _ c.args.parts.now ∙ omega (arith, counts.1, space.1) }
+pub write_runs-requires-clause-narrow : goal.write_runs-requires-clause-narrow
+write_runs-requires-clause-narrow c = (run_count_lem _ _ c.in_ok-count.ensures).0
 
 pub returns : goal.returns
 returns c =
     let m = c.args.mesh.now in
-    runs_placed (finished_state m) _ _ _ _ c.indices-source.ensures (proper m) c.in_ok-count.ensures _ _ _ c.in_ok-check_space.ensures c.write_runs.ensures.lowers
-    (c.write_runs.ensures.lists ∙ ap (λ t. parts_from 0 t (cut (triples c.indices-source.result.now))) c.texture_id.ensures)
+    let triangles = ap (map named) c.as_chunks.ensures.front ∙ named_chunks c.indices-source.result.now ∙ ap triples c.indices-source.ensures in
+    runs_placed (finished_state m) _ _ _ triangles _ _ (ap length c.indices-source.ensures) (proper m) c.in_ok-count.ensures _ _ _ c.in_ok-check_space.ensures c.write_runs.ensures.lowers
+    (c.write_runs.ensures.lists ∙ ap (λ t. on_front (parts_from 0 t (cut (map named c.as_chunks.result.0.now))) c.args.parts.now) c.texture_id.ensures)

@@ -1,17 +1,18 @@
-use Rattle.std.proofs.Common.{◌∙◌}
+use Rattle.std.proofs.Common.{length, sym, ◌∙◌, arith}
+use Rattle.std.proofs.lemmas.Bool.{eqb-false}
 use Rattle.drawing_file.specs.Runs.{run_state, first_figure}
 use Rattle.drawing_file.proofs.Turns.{fewer, quiet, at_figure}
 use Rattle.drawing_file.proofs.runner.Runner.run_on.Goals as goal
 
-pub loop-self-smaller : goal.loop-self-smaller
-loop-self-smaller c = fewer (run_state c.loop-self.self) (run_state c.run_first.new.self) _ c.in-Ok.ensures
+pub loop-at-smaller : goal.loop-at-smaller
+loop-at-smaller c = fewer (run_state c.loop-at.self) (run_state c.run_first.new.self) _ c.in-Ok-None.ensures
 
-pub loop-self-preserved : goal.loop-self-preserved
-loop-self-preserved c =
-    quiet first_figure (run_state c.loop-self.self) (run_state c.run_first.new.self) _ c.loop-self-test.true c.in_default.is c.in-Ok.ensures
-    ∙ c.loop-self.invariant
+pub loop-at-preserved : goal.loop-at-preserved
+loop-at-preserved c =
+    let left = eqb-false (length c.loop-at.self.rest.now) 0 (sym c.loop-at-test.ensures) in
+    quiet first_figure (run_state c.loop-at.self) (run_state c.run_first.new.self) _ (omega arith) c.in-Ok-None.field-0-is c.in-Ok-None.ensures ∙ c.loop-at.invariant
 
-pub returns-in-Some : goal.returns-in-Some
-returns-in-Some c =
-    at_figure first_figure (run_state c.loop-self.self) (run_state c.run_first.new.self) _ c.in-Some.figure c.loop-self-test.true c.in-Some.is c.in-Ok.ensures
-    ∙ c.loop-self.invariant
+pub returns-in-Ok-Some : goal.returns-in-Ok-Some
+returns-in-Ok-Some c =
+    let left = eqb-false (length c.loop-at.self.rest.now) 0 (sym c.loop-at-test.ensures) in
+    at_figure first_figure (run_state c.loop-at.self) (run_state c.run_first.new.self) _ _ (omega arith) c.in-Ok-Some.field-0-is c.in-Ok-Some.ensures ∙ c.loop-at.invariant
