@@ -7,7 +7,7 @@ use Rattle.std.proofs.lemmas.List.{drop_more, take_more, set_at, take_at, map-ap
 use Rattle.std.proofs.lemmas.Bool.{cases_lt}
 use Rattle.emath.specs.Limits.{is_place, all_places}
 use Rattle.emath.specs.declared.plane.Pos2.{Pos2}
-use Rattle.path.specs.Builders.{Left, line_added, declined}
+use Rattle.path.specs.Builders.{Change, unchanged, added, open_line}
 use Rattle.path.specs.Held.{Held, emptied}
 use Rattle.path.specs.declared.point.PathPoint.{PathPoint}
 use Rattle.path.specs.declared.fault.PathFault.{PathFault}
@@ -70,23 +70,23 @@ crowding_is b = ap (λ v. cond (all_places (places_of b)) (cond v TooFewPoints N
 
 module _ (b : List ℕ) (path cleared : Held PathPoint) (memory : List Pos2) (n : ℕ) (ps : List Pos2) (count : n ≡ length b / 8) (same : ps ≡ places_of b) (clear : cleared ≡ emptied path) where
   abbrev refusal : Replaced
-  refusal = record { line = declined (crowding b) (emptied path); places = memory }
+  refusal = record { line = unchanged (crowding b) (emptied path); places = memory }
 
   abbrev added_line : Replaced
-  added_line = record { line = line_added (places_of b) (emptied path); places = places_of b ++ drop (length b / 8) memory }
+  added_line = record { line = added (open_line (places_of b)) (emptied path); places = places_of b ++ drop (length b / 8) memory }
 
-  pub declined_where : (fault : PathFault) → length memory < n → fault ≡ crowded ps → record { line = declined fault cleared; places = memory } ≡ replaced b path memory
+  pub declined_where : (fault : PathFault) → length memory < n → fault ≡ crowded ps → record { line = unchanged fault cleared; places = memory } ≡ replaced b path memory
   declined_where fault short is =
       let why : fault ≡ crowding b = is ∙ ap crowded same ∙ crowding_is b in
-      (λ i. record { line = declined (why i) (clear i); places = memory })
+      (λ i. record { line = unchanged (why i) (clear i); places = memory })
       ∙ ap (λ v. cond v refusal added_line) (sym (lt-ltb (length memory) (length b / 8) (omega arith)))
 
   -- what was read stands at the front
-  pub replaced_where : (after : List Pos2) (l : Left) → n ≤ length memory → after ≡ ps ++ drop n memory → l ≡ line_added (take n after) cleared → record { line = l; places = after } ≡ replaced b path memory
-  replaced_where after l fits read added =
+  pub replaced_where : (after : List Pos2) (l : Change PathPoint) → n ≤ length memory → after ≡ ps ++ drop n memory → l ≡ added (open_line (take n after)) cleared → record { line = l; places = after } ≡ replaced b path memory
+  replaced_where after l fits read grown =
       let now : after ≡ places_of b ++ drop n memory = read ∙ ap (λ l. l ++ drop n memory) same in
       let front : take n after ≡ places_of b = ap (take n) now ∙ take_at (places_of b) (drop n memory) n (places_long b ∙ sym count) in
-      let line : l ≡ line_added (places_of b) (emptied path) = added ∙ (λ i. line_added (front i) (clear i)) in
+      let line : l ≡ added (open_line (places_of b)) (emptied path) = grown ∙ (λ i. added (open_line (front i)) (clear i)) in
       let there : after ≡ places_of b ++ drop (length b / 8) memory = now ∙ ap (λ k. places_of b ++ drop k memory) count in
       (λ i. record { line = line i; places = there i })
       ∙ ap (λ v. cond v refusal added_line) (sym (le-ltb (length memory) (length b / 8) (omega arith)))

@@ -81,8 +81,8 @@ made s path places mesh waiting = record {
 
 -- A line replaces the path. Where it is refused, the path is empty and nothing waits.
 abbrev pub after_line : Result (Unit {0}) Cause → RunState → Replaced → Then (Result (Option Appended) Cause)
-after_line (Ok t) s l = answered (Ok None) (made s l.line.path l.places s.mesh OpenLine)
-after_line (Err why) s l = answered (Err why) (made s l.line.path l.places s.mesh Nothing)
+after_line (Ok t) s l = answered (Ok None) (made s l.line.after l.places s.mesh OpenLine)
+after_line (Err why) s l = answered (Err why) (made s l.line.after l.places s.mesh Nothing)
 
 abbrev pub lined : RunState → Replaced → Then (Result (Option Appended) Cause)
 lined s l = after_line (heard layer.Path l.line.answer) s l
