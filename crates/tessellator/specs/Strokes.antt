@@ -1,5 +1,5 @@
 -- The figures of strokes, open and closed.
-use Rattle.std.specs.Prelude.{ℕ, ◌-◌, Bool, true, false, if◌then◌else◌, not, ◌&&◌, ◌||◌, List, [], ◌∷◌, ◌++◌, map, length, take, drop, Some, None, Option, from_bits, nat_lt, Float}
+use Rattle.std.specs.Prelude.{ℕ, ◌-◌, ◌≤◌, Bool, true, false, if◌then◌else◌, not, ◌&&◌, ◌||◌, List, [], ◌∷◌, ◌++◌, map, length, take, drop, Some, None, Option, from_bits, nat_lt, Float}
 use Rattle.std.specs.Float.{binary32}
 use Rattle.std.specs.Float.Ieee.{sub, mul, div, neg, le, lt, eq}
 use Rattle.emath.specs.Answers.{Answer}
@@ -19,7 +19,7 @@ use Rattle.ecolor.specs.declared.vertex.Vertex.{Vertex}
 use Rattle.tessellator.specs.Boxes.{stroke_box}
 use Rattle.tessellator.specs.Brushes.{colored}
 use Rattle.tessellator.specs.Fills.{are_places, fill_figure, fill_kind, half}
-use Rattle.tessellator.specs.Outcome.{Figure, Outcome, nothing, shaped, outcome, sizing}
+use Rattle.tessellator.specs.Outcome.{Figure, KindFits, Outcome, nothing, shaped, outcome, sizing}
 use Rattle.tessellator.specs.Rows.{row_vertices}
 use Rattle.tessellator.specs.State.{MeshState}
 use Rattle.tessellator.specs.declared.fault.Appended.{Appended}
@@ -210,6 +210,11 @@ stroke_kind pen n =
     if nat_lt n 2 then Nothing
     else if eq pen.width plane.zero || is_clear pen.plain then fill_kind pen.feathering (fill_of pen.course) n
     else kind_of (style_of pen.feathering pen.width) pen.course n
+
+-- there are two points and more, and space for a stroke of this style over them
+pub record StrokeFits (style : Style) (course : Course) (points : List PathPoint) (m : MeshState) : Type 0 where
+  pub enough : 2 ≤ length points
+  pub fits : KindFits (kind_of style course (length points)) (length points) m
 
 -- ---- the calls
 

@@ -2,9 +2,10 @@
 ghost use Rattle.std.specs.Prelude.{◌≡◌, ◌*◌, ◌≤◌, length};
 ghost use Rattle.path.specs.Held.{held};
 ghost use Rattle.tessellator.specs.Boxes.{stroke_box};
-ghost use Rattle.tessellator.specs.Outcome.{Drawn, KindFits, mesh_after};
+ghost use Rattle.tessellator.specs.Outcome.{Drawn, mesh_after};
 ghost use Rattle.tessellator.specs.State.{mesh_state, with_vertices, vertex_room};
 ghost use Rattle.tessellator.specs.Strokes as strokes;
+ghost use Rattle.tessellator.specs.Strokes.{StrokeFits};
 ghost use Rattle.tessellator.specs.declared.stroke.Style.TheVariants.{Hard, Thin, Thick};
 
 use super::outline::Outline;
@@ -65,8 +66,7 @@ impl Outline {
 
     /// Three rows, the middle one faded.
     fn draw_thin<B: Brush>(self, path: &mut Path, brush: &B, out: &mut Mesh)
-        requires enough { 2 ≤ length (held path.old).used }
-        requires fits { KindFits (strokes.kind_of Thin self.course (length (held path.old).used)) (length (held path.old).used) (mesh_state out.old) }
+        requires { StrokeFits Thin self.course (held path.old).used (mesh_state out.old) }
         ensures { Drawn (strokes.stroke_with Thin (B.paints brush.now) self.feathering self.width self.course (held path.old).used) (held path.old) (mesh_state out.old) (held path.new) (mesh_state out.new) }
     {
         self.swell(path);
@@ -92,8 +92,7 @@ impl Outline {
 
     /// Four rows. The ends of a line are feathered too.
     fn draw_thick<B: Brush>(self, path: &Path, brush: &B, out: &mut Mesh)
-        requires enough { 2 ≤ length (held path.now).used }
-        requires fits { KindFits (strokes.kind_of Thick self.course (length (held path.now).used)) (length (held path.now).used) (mesh_state out.old) }
+        requires { StrokeFits Thick self.course (held path.now).used (mesh_state out.old) }
         ensures { mesh_state out.new ≡ mesh_after (strokes.stroke_with Thick (B.paints brush.now) self.feathering self.width self.course (held path.now).used) (mesh_state out.old) }
     {
         let points = path.as_slice();
@@ -110,8 +109,7 @@ impl Outline {
 
     /// Two rows, both core, and the fill by itself.
     fn draw_hard<B: Brush>(self, path: &mut Path, brush: &B, out: &mut Mesh)
-        requires enough { 2 ≤ length (held path.old).used }
-        requires fits { KindFits (strokes.kind_of Hard self.course (length (held path.old).used)) (length (held path.old).used) (mesh_state out.old) }
+        requires { StrokeFits Hard self.course (held path.old).used (mesh_state out.old) }
         ensures { Drawn (strokes.stroke_with Hard (B.paints brush.now) self.feathering self.width self.course (held path.old).used) (held path.old) (mesh_state out.old) (held path.new) (mesh_state out.new) }
     {
         let n = path.as_slice().len();
@@ -137,8 +135,7 @@ impl<'s, C: ColorRule> Pen<'s, C> {
 
     /// A stroke over points that lie in its middle.
     pub(super) fn draw_along(&self, path: &mut Path, out: &mut Mesh)
-        requires enough { 2 ≤ length (held path.old).used }
-        requires fits { KindFits (strokes.kind_of (strokes.style_of self.now.feathering self.now.stroke.now.width) self.now.course (length (held path.old).used)) (length (held path.old).used) (mesh_state out.old) }
+        requires { StrokeFits (strokes.style_of self.now.feathering self.now.stroke.now.width) self.now.course (held path.old).used (mesh_state out.old) }
         ensures { Drawn (strokes.stroke_along (strokes.meaning C.colour C.plain self.now) (held path.old).used) (held path.old) (mesh_state out.old) (held path.new) (mesh_state out.new) }
     {
         let outline = self.outline();
