@@ -56,11 +56,11 @@ pub few_runs : (ts : List Triangle) → length (cut ts) ≤ length ts
 few_runs [] = omega arith
 few_runs (tri x y z ∷ ts) = omega (arith, onto_after (tri x y z) (span_of (tri x y z)) ts, few_after (span_of (tri x y z)) ts)
 
--- the first triangle that is too wide, as a search finds it
 turned : (b : Bool) (k : ℕ) (o p : Option ℕ) → o ≡ p → cond (not b) (Some k) o ≡ cond b p (Some k)
 turned true k o p e = e
 turned false k o p e = refl
 
+-- the first triangle that is too wide, as a search finds it
 pub too_wide_is : (k : ℕ) (ts : List (List ℕ)) → position_from is_wide k ts ≡ too_wide k (map named ts)
 too_wide_is k [] = refl
 too_wide_is k (t ∷ ts) = turned (narrow (span_of (named t))) k _ _ (too_wide_is (k + 1) ts)

@@ -2,7 +2,7 @@
 use Rattle.std.proofs.Common.{◌≡◌, ℕ, suc, ◌+◌, ◌-◌, ◌*◌, ◌<◌, ◌≤◌, List, [], ◌∷◌, ◌++◌, map, length, get_or, set, sym, refl, ap, ◌∙◌, arith}
 use borrow.Rule.Slice.PartMut.{put_mid}
 use Rattle.std.specs.List.{between}
-use Rattle.std.proofs.lemmas.List.{append-nil, drop_all, length-append, length-map, length-take, length-drop}
+use Rattle.std.proofs.lemmas.List.{append-nil, drop_all, length-append, length-map, length-take, length-drop, nil_from_length}
 use Rattle.tessellator.specs.Triangles.{Triangle, tri, flat}
 use Rattle.ecolor.specs.declared.vertex.TextureId.{TextureId}
 use Rattle.cutting.specs.Cutting.{cut, span, joined, Legal}
@@ -57,9 +57,6 @@ first_of_runs runs others s run e =
     let a : runs ≡ run ∷ others = sym (without_spans runs) ∙ ap (map (λ p. p.1)) e ∙ ap (λ l. run ∷ l) (without_spans others) in
     (a, ap (λ (l : List (Span × List Triangle)). (get_or l 0 (s, run)).0) (sym e ∙ ap (map with_span) a))
 
-pub no_runs : (runs : List (List Triangle)) → map with_span runs ≡ [] → runs ≡ []
-no_runs runs e = sym (without_spans runs) ∙ ap (map (λ p. p.1)) e
-
 -- A run is written behind those before it.
 module _ (run : List Triangle) (rest : List (List Triangle)) (s : Span) (source : List ℕ) (n : ℕ) (e : s ≡ span_of_run run) (is : source ≡ flat run) where
   pub room : (ts : List Triangle) (before memory : List ℕ) → Writing (lowered (cut ts)) before n memory (lowered (run ∷ rest)) → n + length source ≤ 3 * length ts
@@ -87,12 +84,8 @@ module _ (run : List Triangle) (rest : List (List Triangle)) (s : Span) (source 
       let across : span run ≡ wide = width_is run some ∙ sym (widths ∙ ap width e) in
       rw (low, across, count) at (one_written all before i table _ _ there w)
 
-empty : (runs : List (List Triangle)) → length runs ≡ 0 → runs ≡ []
-empty [] e = refl
-empty (run ∷ runs) e = absurd (omega arith)
-
 -- where all places of the table are written, no run is left
 pub none_left : (texture : TextureId) (first i : ℕ) (all runs : List (List Triangle)) (before table : List Part) →
     Writing (parts_from 0 texture all) before i table (parts_from first texture runs) → length all ≤ i → runs ≡ []
 none_left texture first i all runs before table w full =
-    empty runs (omega (arith, reached _ _ _ _ _ w, length-parts 0 texture all, length-parts first texture runs))
+    nil_from_length runs (omega (arith, reached _ _ _ _ _ w, length-parts 0 texture all, length-parts first texture runs))

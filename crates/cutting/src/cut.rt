@@ -40,7 +40,7 @@ fn lower(source: &[u32], least: u32, indices: &mut [u16])
     requires within { Within least source.now }
     ensures { indices.new ≡ on_front (less least source.now) indices.old }
 {
-    // By number: over `indices.iter_mut().zip(source)` nothing is known of what was written.
+    // By number, since over `indices.iter_mut().zip(source)` nothing is known of what was written; by `as`, since no cast loses a bit.
     for (i, index) in source.iter().enumerate() {
         indices[i] = (*index - least) as u16;
     }

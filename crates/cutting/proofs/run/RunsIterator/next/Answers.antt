@@ -1,6 +1,7 @@
-use Rattle.std.proofs.Common.{◌≡◌, ◌+◌, [], map, sym, ap, ◌∙◌, arith}
+use Rattle.std.proofs.Common.{◌≡◌, ◌+◌, [], map, sym, ap, ◌∙◌, arith, ◌<◌, length, rules}
 use Rattle.std.proofs.lemmas.List.{get_or-map, length-map}
 use Rattle.tessellator.specs.Triangles.{tri}
+use Rattle.cutting.specs.Runs.{runs_left}
 use Rattle.cutting.specs.Spans.{named, span_of, both}
 use Rattle.cutting.proofs.Counting.{triangle}
 use Rattle.cutting.proofs.Running.{Running, Over, run_begins, run_takes, runs_out, run_full, next_run}
@@ -40,3 +41,8 @@ returns-clause-steps c =
     ] in
     let end : c.loop-triangle.end ≡ i + 1 = c.loop-triangle.invariant.0 in
     next_run _ _ _ _ _ _ _ cases r over (rw end at c.split_at.ensures.front) (rw end at c.split_at.ensures.back)
+
+pub returns-clause-goes : goal.returns-clause-goes
+returns-clause-goes c =
+    let fewer : length (runs_left (record { 0 = c.split_at.result.1 })) < length (runs_left c.args.self.now) = omega (arith, ap length (returns-clause-steps c)) in
+    search rules
