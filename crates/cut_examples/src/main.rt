@@ -15,14 +15,6 @@ use tessellator::mesh::Mesh;
 use tessellator::stroke::open::stroke_open;
 use tessellator::stroke::{PathStroke, StrokeKind};
 
-const NO_PART: Part = Part {
-    first_vertex: 0,
-    vertex_count: 0,
-    first_index: 0,
-    index_count: 0,
-    texture_id: TextureId::DEFAULT,
-};
-
 const WHITE: Solid = Solid {
     color: Color32 {
         r: 255,
@@ -35,7 +27,7 @@ const WHITE: Solid = Solid {
 /// Prints the parts, and the sum of all 16-bit indices.
 fn print_parts(rt: &HostRuntime, mesh: &Finished) -> anyhow::Result<()> {
     let mut indices = vec![in rt.alloc(); 0u16; 300_000]?;
-    let mut parts = [NO_PART; 4];
+    let mut parts = [Part::default(); 4];
     match split_to_u16(mesh, &mut indices, &mut parts) {
         Ok(count) => {
             println!(rt; "cut: parts {count}")?;

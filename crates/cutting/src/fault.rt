@@ -17,6 +17,7 @@ impl CutFault {
     pub fn number(self) -> u8
         ensures { result ≡ number_of self }
     {
+        // By a match, since one case carries a value.
         match self {
             CutFault::Span(_) => 8,
             CutFault::TableTooShort => 9,

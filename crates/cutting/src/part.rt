@@ -8,7 +8,7 @@ use ecolor::vertex::{TextureId, Vertex};
 use tessellator::finished::Finished;
 
 /// A row of vertices and a row of indices of the mesh. The 16-bit indices count from the part's first vertex.
-#[derive(Clone, Copy)]
+#[derive(Clone, Copy, Default, PartialEq)]
 pub struct Part {
     pub first_vertex: usize,
     pub vertex_count: usize,

@@ -17,14 +17,6 @@ use tessellator::mesh::Mesh;
 /// One byte more than a file may have, so that a longer one is seen.
 const READ_BYTES: u64 = 49_153;
 
-const NO_PART: Part = Part {
-    first_vertex: 0,
-    vertex_count: 0,
-    first_index: 0,
-    index_count: 0,
-    texture_id: TextureId::DEFAULT,
-};
-
 /// Prints a line for each figure, or for the refusal that ends the file.
 fn print_figures(rt: &HostRuntime, bytes: &[u8], runner: &mut Runner) -> anyhow::Result<()> {
     // Each figure takes at least one byte, so the file ends within so many turns.
@@ -44,7 +36,7 @@ fn print_figures(rt: &HostRuntime, bytes: &[u8], runner: &mut Runner) -> anyhow:
 /// Cuts the mesh, and prints the count of its parts.
 fn print_parts(rt: &HostRuntime, mesh: &Finished) -> anyhow::Result<()> {
     let mut indices = [0u16; 12_288];
-    let mut parts = [NO_PART; 1];
+    let mut parts = [Part::default(); 1];
     match split_to_u16(mesh, &mut indices, &mut parts) {
         Ok(count) => {
             let line = Parts(count);

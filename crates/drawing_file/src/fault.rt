@@ -51,6 +51,7 @@ impl FileFault {
     pub fn number(self) -> u8
         ensures { result ≡ (cause_of self).number }
     {
+        // By a match, since two cases carry refusals of other layers.
         match self {
             FileFault::CutShort => 11,
             FileFault::UnknownTag => 12,

@@ -41,6 +41,23 @@ where
     Ok(())
 }
 
+/// How many of the items are printed.
+#[derive(Clone, Copy)]
+enum Shown {
+    All,
+    Few,
+}
+
+fn print_items<T: Copy>(rt: &HostRuntime, items: &[T], shown: Shown) -> anyhow::Result<()>
+where
+    Printed<T>: fmt::Display,
+{
+    match shown {
+        Shown::All => print_all(rt, items),
+        Shown::Few => print_few(rt, items),
+    }
+}
+
 fn accepted(answer: Result<(), PathFault>) -> anyhow::Result<()> {
     match answer {
         Ok(()) => Ok(()),
@@ -48,18 +65,14 @@ fn accepted(answer: Result<(), PathFault>) -> anyhow::Result<()> {
     }
 }
 
-fn print_circle(rt: &HostRuntime, radius: f32, whole: bool) -> anyhow::Result<()> {
+fn print_circle(rt: &HostRuntime, radius: f32, shown: Shown) -> anyhow::Result<()> {
     let mut points = [PathPoint::default(); 129];
     let mut path = Path::new(&mut points);
     accepted(path.add_circle(CENTER, radius))?;
     let count = path.as_slice().len();
     let bits = Bits(radius);
     println!(rt; "circle, radius {bits}: {count} points")?;
-    if whole {
-        print_all(rt, path.as_slice())
-    } else {
-        print_few(rt, path.as_slice())
-    }
+    print_items(rt, path.as_slice(), shown)
 }
 
 fn print_segment(rt: &HostRuntime, ends: [Pos2; 2]) -> anyhow::Result<()> {
@@ -106,7 +119,7 @@ fn print_one_after_another(rt: &HostRuntime) -> anyhow::Result<()> {
     print_all(rt, path.as_slice())
 }
 
-fn print_quadrants(rt: &HostRuntime, radius: f32, whole: bool) -> anyhow::Result<()> {
+fn print_quadrants(rt: &HostRuntime, radius: f32, shown: Shown) -> anyhow::Result<()> {
     let bits = Bits(radius);
     let mut memory = [Pos2::default(); 33];
     let mut places = Places::new(&mut memory);
@@ -115,11 +128,7 @@ fn print_quadrants(rt: &HostRuntime, radius: f32, whole: bool) -> anyhow::Result
         accepted(places.add_circle_quadrant(CENTER, radius, quadrant))?;
         let count = places.as_slice().len();
         println!(rt; "quadrant {quadrant}, radius {bits}: {count} places")?;
-        if whole {
-            print_all(rt, places.as_slice())?;
-        } else {
-            print_few(rt, places.as_slice())?;
-        }
+        print_items(rt, places.as_slice(), shown)?;
     }
     Ok(())
 }
@@ -150,18 +159,14 @@ fn radii_of(radii: [f32; 4]) -> CornerRadiusF32 {
     CornerRadiusF32 { nw, ne, sw, se }
 }
 
-fn print_rounded(rt: &HostRuntime, rounded: Rounded, whole: bool) -> anyhow::Result<()> {
+fn print_rounded(rt: &HostRuntime, rounded: Rounded, shown: Shown) -> anyhow::Result<()> {
     let name = rounded.name;
     let mut memory = [Pos2::default(); 132];
     let mut places = Places::new(&mut memory);
     accepted(places.rounded_rectangle(rect_of(rounded.sides), radii_of(rounded.radii)))?;
     let count = places.as_slice().len();
     println!(rt; "rounded, {name}: {count} places")?;
-    if whole {
-        print_all(rt, places.as_slice())
-    } else {
-        print_few(rt, places.as_slice())
-    }
+    print_items(rt, places.as_slice(), shown)
 }
 
 /// A rounded rectangle in place of a quadrant, and the loop over it.
@@ -183,10 +188,10 @@ fn print_loop_of_rounded(rt: &HostRuntime) -> anyhow::Result<()> {
 
 fn print_paths(rt: &HostRuntime) -> anyhow::Result<()> {
     for radius in cases::WHOLE_CIRCLES {
-        print_circle(rt, radius, true)?;
+        print_circle(rt, radius, Shown::All)?;
     }
     for radius in cases::OTHER_CIRCLES {
-        print_circle(rt, radius, false)?;
+        print_circle(rt, radius, Shown::Few)?;
     }
     for ends in cases::SEGMENTS {
         print_segment(rt, ends)?;
@@ -202,19 +207,19 @@ fn print_paths(rt: &HostRuntime) -> anyhow::Result<()> {
 
 fn print_places(rt: &HostRuntime) -> anyhow::Result<()> {
     for radius in cases::SMALL_QUADRANTS {
-        print_quadrants(rt, radius, true)?;
+        print_quadrants(rt, radius, Shown::All)?;
     }
     for radius in cases::LARGE_QUADRANTS {
-        print_quadrants(rt, radius, false)?;
+        print_quadrants(rt, radius, Shown::Few)?;
     }
     for radius in cases::COUNTED_QUADRANTS {
         print_quadrant_count(rt, radius)?;
     }
     for rounded in cases::ROUNDED {
-        print_rounded(rt, rounded, true)?;
+        print_rounded(rt, rounded, Shown::All)?;
     }
     for rounded in cases::LARGE_ROUNDED {
-        print_rounded(rt, rounded, false)?;
+        print_rounded(rt, rounded, Shown::Few)?;
     }
     print_loop_of_rounded(rt)
 }

@@ -24,7 +24,7 @@ pub enum PathType {
 }
 
 /// What a stroke runs along: a line whose ends are not joined, or a loop around a fill,
-/// which is transparent where there is none.
+/// which is transparent where there is none. Not an `Option` of a colour: a loop without a fill is none of a line.
 #[derive(Clone, Copy)]
 pub enum Course {
     Unjoined,

@@ -18,6 +18,7 @@ use emath::rect::Rect;
 
 impl<'a> Places<'a> {
     /// One quadrant of a circle: 0 south east of the center, 1 south west, 2 north west, 3 north east.
+    // A number, since a type of four cases would ask more of the caller than a refusal does.
     pub fn add_circle_quadrant(
         &mut self,
         center: Pos2,
