@@ -1,7 +1,7 @@
 -- A list in lent memory that grows: what a loop that writes one item after the other keeps.
-use Rattle.std.proofs.Common.{◌≡◌, ℕ, ◌+◌, ◌<◌, ◌≤◌, List, [], ◌∷◌, ◌++◌, length, get_or, drop, sym, refl, ap, ◌∙◌, subst, append_assoc, arith, length-append, length-drop, length-take}
+use Rattle.std.proofs.Common.{◌≡◌, ℕ, ◌+◌, ◌<◌, ◌≤◌, List, [], ◌∷◌, ◌++◌, length, get_or, drop, sym, refl, ap, ◌∙◌, subst, append_assoc, arith, length-append, length-drop}
 use Rattle.std.proofs.lemmas.List.{append-nil, drop-drop, drop_more, drop_all}
-use Rattle.slice_vec.proofs.Writing.{all_pushed}
+use Rattle.slice_vec.proofs.Writing.{all_pushed, used_few}
 use Rattle.slice_vec.specs.Held as list
 use Rattle.slice_vec.specs.Held.{Held, extended, pushed}
 use Rattle.path.specs.Held.{Path, held, room}
@@ -67,4 +67,4 @@ module _ {X : Type 0} {start : Held X} {all : List X} {at : Held X} where
   last_of F ys i h b = subst (λ l. Growing start all at (F l)) (drop_all i ys h) b
 
 pub few_used : (p : Path) → length (held p).used ≤ 1048576
-few_used p = let few = p.points.few in simp length-take (omega arith)
+few_used p = used_few p.points

@@ -8,25 +8,32 @@ use Rattle.slice_vec.specs.Held.{Held, held, held_in, emptied, empty_in, extende
 use Rattle.slice_vec.specs.declared.SliceVec.{SliceVec}
 
 module _ {X : Type 0} (limit n : ℕ) (memory : List X) where
-  pub room_in_all : min (length memory) limit ≡ room limit (emptied (held_in n memory))
+  room_in_all : min (length memory) limit ≡ room limit (emptied (held_in n memory))
   unfolding room
   room_in_all = simp take-append-drop (omega arith)
 
-  pub used_fits : n ≤ length memory → n ≤ limit → n ≤ room limit (emptied (held_in n memory))
-  used_fits fit few = omega (arith, room_in_all)
-
-  pub room_left_in : n ≤ length memory → room limit (emptied (held_in n memory)) - n ≡ room limit (held_in n memory)
+  room_left_in : n ≤ length memory → room limit (emptied (held_in n memory)) - n ≡ room limit (held_in n memory)
   unfolding room
   room_left_in fit = simp (take-append-drop, length-take, length-drop) (omega arith)
 
-module _ {X : Type 0} {limit : ℕ} (s : SliceVec X limit) (k : ℕ) (fits : k ≤ room limit (held s)) where
-  pub end_fits : (s.len + k ≤ length s.items.now) × (s.len + k ≤ limit)
-  unfolding room
-  end_fits =
-      let fit = s.fit in
-      let few = s.few in
-      let r = simp (length-take, length-drop) at fits in
-      (omega arith, omega arith)
+module _ {X : Type 0} {limit : ℕ} (s : SliceVec X limit) where
+  len_fits : (s.len ≤ length s.items.now) × (s.len ≤ limit)
+  len_fits = let within = s.within in let counted = s.counted in (omega arith, omega arith)
+
+  pub capacity_is : s.capacity ≡ room limit (emptied (held s))
+  capacity_is = s.counted ∙ room_in_all limit s.len s.items.now
+
+  pub space_is : s.capacity - s.len ≡ room limit (held s)
+  space_is = ap (λ n. n - s.len) capacity_is ∙ room_left_in limit s.len s.items.now len_fits.0
+
+  pub end_fits : (k : ℕ) → k ≤ room limit (held s) → (s.len + k ≤ length s.items.now) × ((s.len + k ≤ limit) × (s.len + k ≤ s.capacity))
+  end_fits k fits =
+      let within = s.within in
+      let counted = s.counted in
+      let space = space_is in (omega arith, (omega arith, omega arith))
+
+  pub used_few : length (held s).used ≤ limit
+  used_few = let fits = len_fits in simp length-take (omega arith)
 
 module _ {X : Type 0} (n : ℕ) (memory : List X) where
   pub cleared : empty_in memory ≡ emptied (held_in n memory)

@@ -1,17 +1,20 @@
 //! A list in memory that the caller lends.
 #![tactic(auto)]
 
-ghost use Rattle.std.specs.Prelude.{◌≡◌, ◌≤◌, ◌==◌, [], ◌∷◌, length, reverse};
+ghost use Rattle.std.specs.Prelude.{◌≡◌, ◌≤◌, ◌==◌, min, [], ◌∷◌, length, reverse};
+
+use map::Same;
 
 pub mod map;
 
-/// At most `MAX` items. Only the first `len` places of the memory are in use.
+/// At most `MAX` items: of the memory `capacity` places may be used, and the first `len` are.
 #[derive(Drop)]
 pub struct SliceVec<'a, T, const MAX: usize> {
     items: &'a mut [T],
+    capacity: usize,
     len: usize,
-    ghost fit: { len ≤ length items.now },
-    ghost few: { len ≤ MAX },
+    ghost counted: { capacity ≡ min (length items.now) MAX },
+    ghost within: { len ≤ capacity },
 }
 
 impl<'a, T: Copy, const MAX: usize> SliceVec<'a, T, MAX> {
@@ -21,7 +24,12 @@ impl<'a, T: Copy, const MAX: usize> SliceVec<'a, T, MAX> {
     pub fn new(items: &'a mut [T]) -> SliceVec<'a, T, MAX>
         ensures { held result ≡ empty_in items.old }
     {
-        SliceVec { items, len: 0 }
+        let capacity = items.len().min(MAX);
+        SliceVec {
+            items,
+            capacity,
+            len: 0,
+        }
     }
 
     /// Empties the list. The memory stays as it is.
@@ -57,14 +65,14 @@ impl<'a, T: Copy, const MAX: usize> SliceVec<'a, T, MAX> {
     pub fn capacity(&self) -> usize
         ensures { result ≡ room MAX (emptied (held self.now)) }
     {
-        self.items.len().min(MAX)
+        self.capacity
     }
 
     /// How many more items there is space for.
     pub fn space(&self) -> usize
         ensures { result ≡ room MAX (held self.now) }
     {
-        self.capacity() - self.len
+        self.capacity - self.len
     }
 
     /// Extends the list by an item, where there is space.
@@ -81,11 +89,7 @@ impl<'a, T: Copy, const MAX: usize> SliceVec<'a, T, MAX> {
     pub fn extend_from_slice(&mut self, items: &[T])
         ensures { held self.new ≡ pushed MAX (held self.old) items.now }
     {
-        if items.len() <= self.space() {
-            let end = self.len + items.len();
-            self.items[self.len..end].copy_from_slice(items);
-            self.len = end;
-        }
+        self.extend_by(items, &Same);
     }
 
     // No `as_mut_slice`: a `&mut` to a slice past a ghost field gets no proof, so the list is changed by calls.

@@ -11,6 +11,17 @@ pub trait Map<S, T> {
         ensures { result ≡ image self.now source };
 }
 
+/// Each item stays as it is.
+pub(crate) struct Same;
+
+impl<T> Map<T, T> for Same {
+    ghost image = { λ _ x. x };
+
+    fn image(&self, source: T) -> T {
+        source
+    }
+}
+
 fn change_each<T: Copy, M: Map<T, T>>(items: &mut [T], by: &M)
     ensures { items.new ≡ map (M.image by.now) items.old }
 {

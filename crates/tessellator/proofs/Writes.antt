@@ -1,6 +1,6 @@
 -- Writes behind what a mesh has, and the room that is left there.
-use Rattle.std.proofs.Common.{◌≡◌, ℕ, zero, suc, ◌+◌, ◌*◌, ◌%◌, ◌<◌, ◌≤◌, List, [], ◌∷◌, ◌++◌, length, get_or, sym, ap, ◌∙◌, subst, mul-le-mul_left, mul-suc, arith, length-append, length-take}
-use Rattle.slice_vec.proofs.Writing.{all_pushed}
+use Rattle.std.proofs.Common.{◌≡◌, ℕ, zero, suc, ◌+◌, ◌*◌, ◌%◌, ◌<◌, ◌≤◌, List, [], ◌∷◌, ◌++◌, length, get_or, sym, ap, ◌∙◌, subst, mul-le-mul_left, mul-suc, arith, length-append}
+use Rattle.slice_vec.proofs.Writing.{all_pushed, used_few}
 use Rattle.slice_vec.specs.Held.{Held, held, pushed, extended, room}
 use Rattle.ecolor.specs.declared.vertex.Vertex.{Vertex}
 use Rattle.tessellator.specs.declared.mesh.Mesh.{Mesh}
@@ -61,5 +61,5 @@ pub point_within : (m : Mesh) (base rows points k : ℕ) → base + rows * point
 point_within m base rows points k h hk =
     let one_more : suc k ≤ points = omega arith in
     let place = mul-le-mul_left rows one_more in
-    let few : length (mesh_state m).vertices ≤ 16777216 = let few = m.vertices.few in simp length-take (omega arith) in
+    let few = used_few m.vertices in
     (omega (arith, place, mul-suc rows k), omega (arith, place, mul-suc rows k))

@@ -14,7 +14,7 @@ pub invariant_of-self : goal.invariant_of-self
 invariant_of-self g c =
     let fits = end_fits c.args.self.now (length c.args.sources.now) (omega arith) in
     let long = ap length c.write_each.ensures ∙ length-map c.args.sources.now (g.M.Map.image c.args.by.now) in
-    record { fit = simp (length-append, length-take, length-drop) (omega arith); few = omega arith }
+    record { counted = simp (length-append, length-take, length-drop) (omega (arith, c.args.self.now.counted)); within = omega arith }
 
 pub returns-then-sources-space : goal.returns-then-sources-space
 returns-then-sources-space g c =

@@ -12,7 +12,7 @@ overflow_add-self g c = omega (arith, g.MAX.fits, end_fits c.args.self.now 1 (om
 pub invariant_of-self : goal.invariant_of-self
 invariant_of-self g c =
     let fits = end_fits c.args.self.now 1 (omega arith) in
-    record { fit = simp length-set (omega arith); few = omega arith }
+    record { counted = simp length-set c.args.self.now.counted; within = omega arith }
 
 pub returns-then-space-gt0 : goal.returns-then-space-gt0
 returns-then-space-gt0 g c =
