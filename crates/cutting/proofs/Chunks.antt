@@ -2,16 +2,7 @@
 use Rattle.std.proofs.Common.{◌≡◌, ℕ, suc, ◌/◌, ◌<◌, List, [], ◌∷◌, ◌++◌, map, length, get_or, refl, ap, ◌∙◌, arith}
 use Rattle.std.specs.List.{flat_map}
 use Rattle.std.specs.Simd.{first_chunks}
-use Rattle.tessellator.specs.Triangles.{tri, flat, triples}
-use Rattle.cutting.specs.Spans.{named}
-
-pub named_chunks : (is : List ℕ) → map named (first_chunks 3 (length is / 3) is) ≡ triples is
-named_chunks [] = refl
-named_chunks (x ∷ []) = refl
-named_chunks (x ∷ y ∷ []) = refl
-named_chunks (x ∷ y ∷ z ∷ is) =
-    let more : length (x ∷ y ∷ z ∷ is) / 3 ≡ suc (length is / 3) = omega arith in
-    rw more (ap (λ l. tri x y z ∷ l) (named_chunks is))
+use Rattle.tessellator.specs.Triangles.{tri, flat, triples, named}
 
 three : (t : List ℕ) → length t ≡ 3 → t ≡ get_or t 0 0 ∷ get_or t 1 0 ∷ get_or t 2 0 ∷ []
 three [] e = absurd (omega arith)

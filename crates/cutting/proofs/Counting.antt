@@ -2,10 +2,10 @@
 use Rattle.std.proofs.Common.{◌≡◌, ℕ, ◌+◌, ◌≤◌, Bool, true, false, cond, not, List, [], ◌∷◌, map, length, get_or, Some, Option, refl, arith}
 use Rattle.std.specs.List.{position_from}
 use Rattle.std.proofs.lemmas.Bool.{cond_both, cond-true, cond-false}
-use Rattle.tessellator.specs.Triangles.{Triangle, tri}
+use Rattle.tessellator.specs.Triangles.{Triangle, tri, named}
 use Rattle.cutting.specs.Cutting.{onto, go_on, cut}
 use Rattle.cutting.specs.Outcome.{too_wide}
-use Rattle.cutting.specs.Spans.{named, span_of, both, narrow, is_wide}
+use Rattle.cutting.specs.Spans.{span_of, both, narrow, is_wide}
 use Rattle.cutting.specs.declared.span.Span.{Span}
 
 -- the runs that go on from a run with this span

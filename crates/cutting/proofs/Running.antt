@@ -1,11 +1,11 @@
 -- A run of triangles as far as it goes.
 use Rattle.std.proofs.Common.{◌≡◌, ℕ, zero, suc, ◌+◌, ◌<◌, ◌≤◌, min, max, true, false, List, [], ◌∷◌, ◌++◌, map, length, get_or, take, drop, sym, refl, ap, ◌∙◌, subst, add-one, arith}
 use Rattle.std.proofs.lemmas.List.{drop_more, take_more, drop_all, append-nil, append_assoc, take-map, drop-map}
-use Rattle.tessellator.specs.Triangles.{Triangle, tri, flat}
+use Rattle.tessellator.specs.Triangles.{Triangle, tri, flat, named}
 use Rattle.cutting.specs.Cutting.{lowest, highest, span, onto, cut}
 use Rattle.cutting.specs.Parts.{least}
 use Rattle.cutting.specs.Runs.{span_of_run, with_span}
-use Rattle.cutting.specs.Spans.{named, span_of, both, narrow}
+use Rattle.cutting.specs.Spans.{span_of, both, narrow}
 use Rattle.cutting.specs.declared.span.Span.{Span}
 use Rattle.cutting.proofs.Counting.{runs_after, triangle, starts, goes_on, stops, some_after}
 

@@ -1,8 +1,8 @@
 -- The runs of triangles, as the code goes through them.
 use Rattle.std.specs.Prelude.{List, [], ◌∷◌, map}
-use Rattle.tessellator.specs.Triangles.{Triangle}
+use Rattle.tessellator.specs.Triangles.{Triangle, named}
 use Rattle.cutting.specs.Cutting.{lowest, highest, cut}
-use Rattle.cutting.specs.Spans.{named, span_of}
+use Rattle.cutting.specs.Spans.{span_of}
 use Rattle.cutting.specs.declared.run.Run.{Run}
 use Rattle.cutting.specs.declared.run.Runs.{Runs}
 use Rattle.cutting.specs.declared.span.Span.{Span}

@@ -1,11 +1,7 @@
 -- The least and greatest index of some triangles.
-use Rattle.std.specs.Prelude.{ℕ, ◌+◌, ◌-◌, min, max, Bool, not, List, nat_le, slice_index}
-use Rattle.tessellator.specs.Triangles.{Triangle, tri}
+use Rattle.std.specs.Prelude.{ℕ, ◌+◌, ◌-◌, min, max, Bool, not, List, nat_le}
+use Rattle.tessellator.specs.Triangles.{Triangle, tri, named}
 use Rattle.cutting.specs.declared.span.Span.{Span}
-
--- a triangle by its three indices
-abbrev pub named : List ℕ → Triangle
-named is = tri (slice_index is 0) (slice_index is 1) (slice_index is 2)
 
 abbrev pub span_of : Triangle → Span
 span_of (tri x y z) = record { least = min x (min y z); greatest = max x (max y z) }

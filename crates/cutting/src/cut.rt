@@ -6,7 +6,8 @@ ghost use Rattle.cutting.specs.Cutting.{cut, Narrow};
 ghost use Rattle.cutting.specs.Outcome.{left, on_front, space_for, run_count, in_one, in_runs, cutting};
 ghost use Rattle.cutting.specs.Parts.{less, lowered, parts_from, Within};
 ghost use Rattle.cutting.specs.Promises.{Fewest, Complete, Faithful};
-ghost use Rattle.cutting.specs.Spans.{named, is_wide};
+ghost use Rattle.cutting.specs.Spans.{is_wide};
+ghost use Rattle.tessellator.specs.Triangles.{named};
 
 use crate::fault::CutFault;
 use crate::part::Part;

@@ -1,8 +1,7 @@
 //! Runs of triangles.
 ghost use Rattle.std.specs.Prelude.{◌≡◌, map};
 ghost use Rattle.std.specs.Iterator.{YieldsFirstBy, item_count};
-ghost use Rattle.tessellator.specs.Triangles.{flat};
-ghost use Rattle.cutting.specs.Spans.{named};
+ghost use Rattle.tessellator.specs.Triangles.{flat, named};
 ghost use Rattle.cutting.specs.Runs.{seen, runs_left};
 
 use crate::span::Span;

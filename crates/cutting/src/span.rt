@@ -1,5 +1,6 @@
 //! The span of indices.
 ghost use Rattle.std.specs.Prelude.{◌≡◌};
+ghost use Rattle.tessellator.specs.Triangles.{named};
 ghost use Rattle.cutting.specs.Spans as spans;
 
 /// The most vertices that a part has.
@@ -15,7 +16,7 @@ pub(crate) struct Span {
 impl Span {
     /// The span of a triangle.
     pub(crate) fn of_triangle(triangle: [u32; 3]) -> Span
-        ensures { result ≡ spans.span_of (spans.named triangle) }
+        ensures { result ≡ spans.span_of (named triangle) }
     {
         let [x, y, z] = triangle;
         Span {

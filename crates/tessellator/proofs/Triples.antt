@@ -1,14 +1,24 @@
 -- Triangles and the list of indices that names them.
-use Rattle.std.proofs.Common.{◌≡◌, ℕ, zero, suc, ◌+◌, ◌-◌, ◌*◌, ◌/◌, ◌%◌, ◌<◌, ◌≤◌, List, [], ◌∷◌, ◌++◌, length, get_or, take, drop, refl, ap, ◌∙◌, arith}
+use Rattle.std.proofs.Common.{◌≡◌, ℕ, zero, suc, ◌+◌, ◌-◌, ◌*◌, ◌/◌, ◌%◌, ◌<◌, ◌≤◌, List, [], ◌∷◌, ◌++◌, map, length, get_or, take, drop, sym, refl, ap, ◌∙◌, arith}
 use Rattle.std.specs.List.{between}
-use Rattle.std.proofs.lemmas.List.{take_at, length-drop, drop_all}
-use Rattle.tessellator.specs.Triangles.{Triangle, tri, flat, triples}
+use Rattle.std.specs.Simd.{first_chunks}
+use Rattle.std.proofs.lemmas.List.{take_at, length-drop, drop_all, length-map, get_or-map}
+use Rattle.tessellator.specs.Triangles.{Triangle, tri, flat, named, triples}
 
 pub length-triples : (is : List ℕ) → length (triples is) ≡ length is / 3
 length-triples [] = refl
 length-triples (x ∷ []) = refl
 length-triples (x ∷ y ∷ []) = refl
 length-triples (x ∷ y ∷ z ∷ is) = omega (arith, length-triples is)
+
+-- the triangles that the code reads three indices at a time
+pub named_chunks : (is : List ℕ) → map named (first_chunks 3 (length is / 3) is) ≡ triples is
+named_chunks [] = refl
+named_chunks (x ∷ []) = refl
+named_chunks (x ∷ y ∷ []) = refl
+named_chunks (x ∷ y ∷ z ∷ is) =
+    let more : length (x ∷ y ∷ z ∷ is) / 3 ≡ suc (length is / 3) = omega arith in
+    rw more (ap (λ l. tri x y z ∷ l) (named_chunks is))
 
 -- the triangle with the number k
 pub triple_at : (is : List ℕ) (k : ℕ) → k < length is / 3 → get_or (triples is) k (tri 0 0 0) ≡ tri (get_or is (3 * k) 0) (get_or is (3 * k + 1) 0) (get_or is (3 * k + 2) 0)
@@ -21,6 +31,14 @@ triple_at (x ∷ y ∷ z ∷ is) (suc k) h =
     let four : suc (suc (suc (3 * k))) + 1 ≡ suc (suc (suc (3 * k + 1))) = omega arith in
     let five : suc (suc (suc (3 * k))) + 2 ≡ suc (suc (suc (3 * k + 2))) = omega arith in
     rw (three, four, five) (triple_at is k (omega arith))
+
+-- the same, read three indices at a time
+pub chunk_at : (is : List ℕ) (chunks : List (List ℕ)) (k : ℕ) (d : List ℕ) → chunks ≡ first_chunks 3 (length is / 3) is → k < length is / 3 → named (get_or chunks k d) ≡ tri (get_or is (3 * k) 0) (get_or is (3 * k + 1) 0) (get_or is (3 * k + 2) 0)
+chunk_at is chunks k d e h =
+    let all : map named chunks ≡ triples is = ap (map named) e ∙ named_chunks is in
+    let long = ap length all ∙ length-triples is in
+    let there : k < length chunks = omega (arith, length-map chunks named) in
+    sym (get_or-map named chunks k d (tri 0 0 0) there) ∙ ap (λ ts. get_or ts k (tri 0 0 0)) all ∙ triple_at is k h
 
 pub triples_drop : (is : List ℕ) (k : ℕ) → triples (drop (3 * k) is) ≡ drop k (triples is)
 triples_drop is zero = refl

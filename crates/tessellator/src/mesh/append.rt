@@ -72,9 +72,10 @@ impl<'a> Mesh<'a> {
         requires named { (k : ℕ) → k < length indices.now → base + slice_index indices.now k < length (mesh_state self.old).vertices }
         ensures { mesh_state self.new ≡ with_triangles base (mesh_state self.old) (triples indices.now) }
     {
-        for i in 0..indices.len() / 3 {
-            let at = 3 * i;
-            self.push_triangle(base, indices[at], indices[at + 1], indices[at + 2]);
+        let (triangles, _) = indices.as_chunks::<3>();
+        for triangle in triangles {
+            let [a, b, c] = *triangle;
+            self.push_triangle(base, a, b, c);
         }
     }
 }

@@ -5,7 +5,8 @@ use Rattle.std.proofs.lemmas.List.{length-map}
 use Rattle.cutting.specs.Cutting.{cut}
 use Rattle.cutting.specs.Outcome.{too_wide, counted}
 use Rattle.cutting.specs.Runs.{seen, runs_left, with_span}
-use Rattle.cutting.specs.Spans.{named, is_wide}
+use Rattle.cutting.specs.Spans.{is_wide}
+use Rattle.tessellator.specs.Triangles.{named}
 use Rattle.cutting.proofs.Counting.{few_runs, too_wide_is}
 use Rattle.cutting.proofs.cut.count_runs.Goals as goal
 

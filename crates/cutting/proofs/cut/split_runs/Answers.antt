@@ -1,11 +1,10 @@
 use Rattle.std.proofs.Common.{map, length, ap, ◌∙◌, rules}
 use Rattle.tessellator.specs.State.{finished_state}
-use Rattle.tessellator.specs.Triangles.{triples}
+use Rattle.tessellator.specs.Triangles.{triples, named}
 use Rattle.cutting.specs.Cutting.{cut}
 use Rattle.cutting.specs.Outcome.{on_front}
 use Rattle.cutting.specs.Parts.{parts_from}
-use Rattle.cutting.specs.Spans.{named}
-use Rattle.cutting.proofs.Chunks.{named_chunks}
+use Rattle.tessellator.proofs.Triples.{named_chunks}
 use Rattle.cutting.proofs.Finished.{proper}
 use Rattle.cutting.proofs.Splitting.{run_count_lem, runs_refused, runs_declined, runs_placed}
 use Rattle.cutting.proofs.cut.split_runs.Goals as goal

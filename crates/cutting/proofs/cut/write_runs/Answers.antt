@@ -1,7 +1,7 @@
 use Rattle.std.proofs.Common.{◌+◌, ◌≤◌, map, length, arith, rules}
 use Rattle.std.proofs.lemmas.List.{length-map}
 use Rattle.cutting.specs.Cutting.{cut}
-use Rattle.cutting.specs.Spans.{named}
+use Rattle.tessellator.specs.Triangles.{named}
 use Rattle.cutting.proofs.Cuts.{cut_cuts}
 use Rattle.cutting.proofs.Parting.{first_of_runs, none_left, run_named, room, lowers_on, lists_on}
 use Rattle.cutting.proofs.Writing.{begins, ends}

@@ -2,7 +2,7 @@ use Rattle.std.proofs.Common.{map}
 use Rattle.std.specs.List.{AllByRecursion}
 use Rattle.cutting.specs.Cutting.{cut, Legal}
 use Rattle.cutting.specs.Parts.{lowered, parts_from}
-use Rattle.cutting.specs.Spans.{named}
+use Rattle.tessellator.specs.Triangles.{named}
 use Rattle.cutting.proofs.Writing.{Writing}
 use Rattle.cutting.proofs.cut.write_runs.Given as goal
 

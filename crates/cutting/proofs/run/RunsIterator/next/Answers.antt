@@ -1,8 +1,8 @@
 use Rattle.std.proofs.Common.{◌≡◌, ◌+◌, [], map, sym, ap, ◌∙◌, arith, ◌<◌, length, rules}
 use Rattle.std.proofs.lemmas.List.{get_or-map, length-map}
-use Rattle.tessellator.specs.Triangles.{tri}
+use Rattle.tessellator.specs.Triangles.{tri, named}
 use Rattle.cutting.specs.Runs.{runs_left}
-use Rattle.cutting.specs.Spans.{named, span_of, both}
+use Rattle.cutting.specs.Spans.{span_of, both}
 use Rattle.cutting.proofs.Counting.{triangle}
 use Rattle.cutting.proofs.Running.{Running, Over, run_begins, run_takes, runs_out, run_full, next_run}
 use Rattle.cutting.proofs.run.RunsIterator.next.Goals as goal

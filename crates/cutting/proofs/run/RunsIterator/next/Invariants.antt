@@ -1,5 +1,5 @@
 use Rattle.std.proofs.Common.{◌≡◌, ◌+◌, map}
-use Rattle.cutting.specs.Spans.{named}
+use Rattle.tessellator.specs.Triangles.{named}
 use Rattle.cutting.proofs.Counting.{triangle}
 use Rattle.cutting.proofs.Running.{Running}
 use Rattle.cutting.proofs.run.RunsIterator.next.Given as goal
