@@ -3,7 +3,7 @@ use Rattle.std.specs.Prelude.{ℕ, ◌/◌, if◌then◌else◌, List, ◌++◌,
 use Rattle.emath.specs.Limits.{all_places}
 use Rattle.emath.specs.declared.plane.Pos2.{Pos2}
 use Rattle.path.specs.Builders.{Change, change, unchanged, added, open_line}
-use Rattle.path.specs.Held.{Held, Path, emptied, held}
+use Rattle.path.specs.Held.{Held, Path, emptied}
 use Rattle.path.specs.declared.fault.PathFault.{PathFault}
 use Rattle.path.specs.declared.fault.PathFault.TheVariants.{OutOfLimits, TooFewPoints, NoSpace}
 use Rattle.path.specs.declared.point.PathPoint.{PathPoint}
@@ -15,7 +15,7 @@ pub record Replaced : Type 0 where
   pub places : List Pos2
 
 abbrev pub remains : Result (Unit {0}) PathFault → Path → List Pos2 → Replaced
-remains r path places = record { line = change r (held path); places = places }
+remains r path places = record { line = change r path; places = places }
 
 -- a line with more places than the memory holds is refused, for the same reasons and in the same order as by the path
 abbrev pub crowding : List ℕ → PathFault

@@ -67,4 +67,4 @@ module _ {X : Type 0} {start : Held X} {all : List X} {at : Held X} where
   last_of F ys i h b = subst (λ l. Growing start all at (F l)) (drop_all i ys h) b
 
 pub few_used : (p : Path) → length (held p).used ≤ 1048576
-few_used p = used_few p.points
+few_used p = used_few p.list

@@ -9,11 +9,12 @@ use Rattle.path.specs.Arcs.{quadrant_places, are_radii, clamped_radii, rounded}
 use Rattle.circles.specs.Circles.{circle}
 use Rattle.path.specs.Circling.{point_on}
 use Rattle.path.specs.Faults.{told}
-use Rattle.path.specs.Held.{Held, emptied, extended, room}
+use Rattle.path.specs.Held.{Held, emptied, extended, room, held}
 use Rattle.path.specs.Lines.{point, open_points, loop_points}
 use Rattle.path.specs.declared.corner_radius.CornerRadiusF32.{CornerRadiusF32}
 use Rattle.path.specs.declared.fault.PathFault.{PathFault}
 use Rattle.path.specs.declared.fault.PathFault.TheVariants.{OutOfLimits, TooFewPoints, NoSpace}
+use Rattle.path.specs.declared.lent.Lent.{Lent}
 use Rattle.path.specs.declared.point.PathPoint.{PathPoint}
 
 -- ---- in any memory
@@ -23,8 +24,8 @@ pub record Change (X : Type 0) : Type 0 where
   pub answer : Answer (Unit {0})
   pub after : Held X
 
-abbrev pub change : {X : Type 0} → Result (Unit {0}) PathFault → Held X → Change X
-change r after = record { answer = told r; after = after }
+abbrev pub change : {X : Type 0} → Result (Unit {0}) PathFault → Lent X → Change X
+change r l = record { answer = told r; after = held l }
 
 -- a refusal leaves the list as it was
 abbrev pub unchanged : {X : Type 0} → PathFault → Held X → Change X

@@ -5,9 +5,10 @@ use Rattle.emath.specs.declared.plane.Pos2.{Pos2}
 use Rattle.emath.specs.declared.plane.Vec2.{Vec2}
 use Rattle.path.specs.Builders.{Change, added, replaced}
 use Rattle.path.specs.Faults.{told}
-use Rattle.path.specs.Held.{Held, emptied, extended}
+use Rattle.path.specs.Held.{Held, emptied, extended, held}
 use Rattle.path.specs.Lines.{point}
 use Rattle.path.specs.declared.fault.PathFault.{PathFault}
+use Rattle.path.specs.declared.lent.Lent.{Lent}
 use Rattle.path.specs.declared.point.PathPoint.{PathPoint}
 
 -- items of this kind, behind those of `from`
@@ -50,8 +51,8 @@ abbrev pub Numbering : {X : Type 0} → ℕ → List X → Type 0
 Numbering n items = length items ≡ n
 
 -- the laws of a builder, and of a call that replaces what is in use
-abbrev pub Adds : {X : Type 0} → (List X → Type 0) → Result (List X) PathFault → Result (Unit {0}) PathFault → Held X → Held X → Type 0
-Adds Kind what r before after = Keeps Kind (added what) before (told r) before after
+abbrev pub Adds : {X : Type 0} → (List X → Type 0) → Result (List X) PathFault → Result (Unit {0}) PathFault → Lent X → Lent X → Type 0
+Adds Kind what r before after = Keeps Kind (added what) (held before) (told r) (held before) (held after)
 
-abbrev pub Replaces : {X : Type 0} → (List X → Type 0) → Result (List X) PathFault → Result (Unit {0}) PathFault → Held X → Held X → Type 0
-Replaces Kind what r before after = Keeps Kind (replaced what) (emptied before) (told r) before after
+abbrev pub Replaces : {X : Type 0} → (List X → Type 0) → Result (List X) PathFault → Result (Unit {0}) PathFault → Lent X → Lent X → Type 0
+Replaces Kind what r before after = Keeps Kind (replaced what) (emptied (held before)) (told r) (held before) (held after)

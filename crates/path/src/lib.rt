@@ -4,6 +4,7 @@
 mod arc;
 pub mod corner_radius;
 pub mod fault;
+pub mod lent;
 mod line;
 mod on_circle;
 pub mod path;

@@ -12,7 +12,6 @@ use crate::line;
 use crate::line::{Corner, Turn};
 use crate::on_circle::Circle;
 use crate::point::PathPoint;
-use crate::space::check_space;
 use circles::circle_for;
 use emath::limits::{all_places, is_distance, is_place, is_vector};
 use emath::plane::{Pos2, Vec2};
@@ -20,51 +19,50 @@ use emath::plane::{Pos2, Vec2};
 impl<'a> Path<'a> {
     /// One point with its normal.
     pub fn add_point(&mut self, pos: Pos2, normal: Vec2) -> Result<(), PathFault>
-        ensures outcome { change result (held self.new) ≡ added (one_point pos normal) (held self.old) }
-        ensures adds { Adds (Along (pos ∷ [])) (one_point pos normal) result (held self.old) (held self.new) }
+        ensures outcome { change result self.new ≡ added (one_point pos normal) (held self.old) }
+        ensures adds { Adds (Along (pos ∷ [])) (one_point pos normal) result self.old self.new }
     {
         if !is_place(pos) || !is_vector(normal) {
             return Err(PathFault::OutOfLimits);
         }
-        check_space(1, self.points.space())?;
-        self.points.push(PathPoint { pos, normal });
+        self.reserve(1)?;
+        self.list.push(PathPoint { pos, normal });
         Ok(())
     }
 
     /// A circle. Its first point is repeated last, up to the sign of a zero.
     pub fn add_circle(&mut self, center: Pos2, radius: f32) -> Result<(), PathFault>
-        ensures outcome { change result (held self.new) ≡ added (whole_circle center radius) (held self.old) }
-        ensures adds { Adds (Circled center radius) (whole_circle center radius) result (held self.old) (held self.new) }
+        ensures outcome { change result self.new ≡ added (whole_circle center radius) (held self.old) }
+        ensures adds { Adds (Circled center radius) (whole_circle center radius) result self.old self.new }
     {
         if !is_place(center) || !is_distance(radius) {
             return Err(PathFault::OutOfLimits);
         }
         let directions = circle_for(radius);
-        check_space(directions.len(), self.points.space())?;
-        self.points
-            .extend_by(directions, &Circle { center, radius });
+        self.reserve(directions.len())?;
+        self.list.extend_by(directions, &Circle { center, radius });
         Ok(())
     }
 
     /// A straight line between two places.
     pub fn add_line_segment(&mut self, a: Pos2, b: Pos2) -> Result<(), PathFault>
-        ensures outcome { change result (held self.new) ≡ added (open_line (a ∷ b ∷ [])) (held self.old) }
-        ensures adds { Adds (Along (a ∷ b ∷ [])) (open_line (a ∷ b ∷ [])) result (held self.old) (held self.new) }
+        ensures outcome { change result self.new ≡ added (open_line (a ∷ b ∷ [])) (held self.old) }
+        ensures adds { Adds (Along (a ∷ b ∷ [])) (open_line (a ∷ b ∷ [])) result self.old self.new }
     {
         if !is_place(a) || !is_place(b) {
             return Err(PathFault::OutOfLimits);
         }
-        check_space(2, self.points.space())?;
+        self.reserve(2)?;
         let normal = line::edge_normal(a, b);
-        self.points.push(PathPoint { pos: a, normal });
-        self.points.push(PathPoint { pos: b, normal });
+        self.list.push(PathPoint { pos: a, normal });
+        self.list.push(PathPoint { pos: b, normal });
         Ok(())
     }
 
     /// An open line over the places. A corner sharper than a right angle gets two points.
     pub fn add_open_points(&mut self, places: &[Pos2]) -> Result<(), PathFault>
-        ensures outcome { change result (held self.new) ≡ added (open_line places.now) (held self.old) }
-        ensures adds { Adds (Along places.now) (open_line places.now) result (held self.old) (held self.new) }
+        ensures outcome { change result self.new ≡ added (open_line places.now) (held self.old) }
+        ensures adds { Adds (Along places.now) (open_line places.now) result self.old self.new }
     {
         if !all_places(places) {
             return Err(PathFault::OutOfLimits);
@@ -81,14 +79,14 @@ impl<'a> Path<'a> {
     fn reserve_open(&self, first: Pos2, second: Pos2, rest: &[Pos2]) -> Result<(), PathFault>
         ensures { result ≡ reserved (length (open_points (first ∷ second ∷ rest.now))) (room (held self.now)) }
     {
-        let space = self.points.space();
+        let space = self.list.space();
         if rest.len() > space {
             return Err(PathFault::NoSpace);
         }
         if 2 + 2 * rest.len() <= space {
             return Ok(());
         }
-        check_space(line::open_count(first, second, rest), space)
+        self.reserve(line::open_count(first, second, rest))
     }
 
     fn push_open(&mut self, first: Pos2, second: Pos2, rest: &[Pos2])
@@ -98,7 +96,7 @@ impl<'a> Path<'a> {
         let mut edge = line::edge_normal(first, second);
         let mut normal = edge;
         let mut at = second;
-        self.points.push(PathPoint { pos: first, normal });
+        self.list.push(PathPoint { pos: first, normal });
         for next in rest {
             edge = line::edge_normal(at, *next);
             let turn = Turn::<Corner>::between(normal, edge);
@@ -106,7 +104,7 @@ impl<'a> Path<'a> {
             normal = turn.normal;
             at = *next;
         }
-        self.points.push(PathPoint {
+        self.list.push(PathPoint {
             pos: at,
             normal: edge,
         });
@@ -117,13 +115,13 @@ impl<'a> Path<'a> {
         ensures { held self.new ≡ extended (held self.old) (corner_points at corner) }
     {
         match corner {
-            Corner::Mitre(normal) => self.points.push(PathPoint { pos: at, normal }),
+            Corner::Mitre(normal) => self.list.push(PathPoint { pos: at, normal }),
             Corner::Cut(before, after) => {
-                self.points.push(PathPoint {
+                self.list.push(PathPoint {
                     pos: at,
                     normal: before,
                 });
-                self.points.push(PathPoint {
+                self.list.push(PathPoint {
                     pos: at,
                     normal: after,
                 });
@@ -133,8 +131,8 @@ impl<'a> Path<'a> {
 
     /// A loop over the places, back to the first. No corner is cut off.
     pub fn add_line_loop(&mut self, places: &[Pos2]) -> Result<(), PathFault>
-        ensures outcome { change result (held self.new) ≡ added (line_loop places.now) (held self.old) }
-        ensures adds { Adds (At places.now) (line_loop places.now) result (held self.old) (held self.new) }
+        ensures outcome { change result self.new ≡ added (line_loop places.now) (held self.old) }
+        ensures adds { Adds (At places.now) (line_loop places.now) result self.old self.new }
     {
         if !all_places(places) {
             return Err(PathFault::OutOfLimits);
@@ -142,7 +140,7 @@ impl<'a> Path<'a> {
         let [first, .., last] = places else {
             return Err(PathFault::TooFewPoints);
         };
-        check_space(places.len(), self.points.space())?;
+        self.reserve(places.len())?;
         self.push_loop(*last, *first, &places[1..]);
         Ok(())
     }
@@ -156,14 +154,14 @@ impl<'a> Path<'a> {
         let mut at = first;
         for next in rest {
             let turn = Turn::<Vec2>::between(normal, line::edge_normal(at, *next));
-            self.points.push(PathPoint {
+            self.list.push(PathPoint {
                 pos: at,
                 normal: turn.joint,
             });
             normal = turn.normal;
             at = *next;
         }
-        self.points.push(PathPoint {
+        self.list.push(PathPoint {
             pos: at,
             normal: Turn::<Vec2>::between(normal, closing).joint,
         });

@@ -20,6 +20,6 @@ impl<'a> Path<'a> {
     pub fn move_points(&mut self, side: Side)
         ensures { held self.new ≡ rewritten (held self.old) (map (moved side) (held self.old).used) }
     {
-        self.points.change_all(&side);
+        self.list.change_all(&side);
     }
 }

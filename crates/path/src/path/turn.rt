@@ -50,8 +50,8 @@ impl<'a> Path<'a> {
         ensures { held self.new ≡ rewritten (held self.old) (turns.turned (held self.old).used) }
     {
         if cw_signed_area(self.as_slice()) < 0.0 {
-            self.points.reverse();
-            self.points.change_all(&Flip);
+            self.list.reverse();
+            self.list.change_all(&Flip);
         }
     }
 }

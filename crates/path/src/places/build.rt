@@ -2,7 +2,7 @@
 ghost use Rattle.std.specs.Prelude.{◌≡◌, ◌≤◌, length, Ok};
 ghost use Rattle.path.specs.Arcs.{quadrant_count, arc_places, square, joined, clamped_radii, rounded_count};
 ghost use Rattle.path.specs.Builders.{change, added, replaced, one_quadrant, rounded_rectangle};
-ghost use Rattle.path.specs.Held.{held_places, extended, room};
+ghost use Rattle.path.specs.Held.{held, extended, room};
 ghost use Rattle.path.specs.Laws.{Adds, Replaces, Numbering};
 
 use super::Places;
@@ -10,7 +10,6 @@ use crate::arc::{Arc, Corners, Quadrant, corners_of};
 use crate::corner_radius::CornerRadiusF32;
 use crate::fault::PathFault;
 use crate::on_circle::Circle;
-use crate::space::check_space;
 use circles::circle_for;
 use emath::limits::{is_distance, is_place};
 use emath::plane::Pos2;
@@ -25,8 +24,8 @@ impl<'a> Places<'a> {
         radius: f32,
         quadrant: u8,
     ) -> Result<(), PathFault>
-        ensures outcome { change result (held_places self.new) ≡ added (one_quadrant center radius quadrant) (held_places self.old) }
-        ensures adds { Adds (Numbering (quadrant_count radius)) (one_quadrant center radius quadrant) result (held_places self.old) (held_places self.new) }
+        ensures outcome { change result self.new ≡ added (one_quadrant center radius quadrant) (held self.old) }
+        ensures adds { Adds (Numbering (quadrant_count radius)) (one_quadrant center radius quadrant) result self.old self.new }
     {
         if !is_place(center) || !is_distance(radius) {
             return Err(PathFault::OutOfLimits);
@@ -36,32 +35,32 @@ impl<'a> Places<'a> {
             quadrant: Quadrant::try_from(quadrant)?,
             drops_last: false,
         };
-        check_space(arc.count(), self.places.space())?;
+        self.reserve(arc.count())?;
         self.push_arc(arc);
         Ok(())
     }
 
     fn push_arc(&mut self, arc: Arc)
-        requires { length (arc_places arc) ≤ room (held_places self.old) }
-        ensures { held_places self.new ≡ extended (held_places self.old) (arc_places arc) }
+        requires { length (arc_places arc) ≤ room (held self.old) }
+        ensures { held self.new ≡ extended (held self.old) (arc_places arc) }
     {
         let circle = arc.circle;
         if circle.radius <= 0.0 {
             if !arc.drops_last {
-                self.places.push(circle.center);
+                self.list.push(circle.center);
             }
             return;
         }
         let directions = circle_for(circle.radius);
         let first = arc.quadrant.number() * (directions.len() / 4);
         let end = first + arc.count();
-        self.places.extend_by(&directions[first..end], &circle);
+        self.list.extend_by(&directions[first..end], &circle);
     }
 
     /// A rectangle with rounded corners, in place of what the list had.
     pub fn rounded_rectangle(&mut self, rect: Rect, radii: CornerRadiusF32) -> Result<(), PathFault>
-        ensures outcome { change result (held_places self.new) ≡ replaced (rounded_rectangle rect radii) (held_places self.old) }
-        ensures replaces { Replaces (Numbering (rounded_count rect (clamped_radii rect radii))) (rounded_rectangle rect radii) result (held_places self.old) (held_places self.new) }
+        ensures outcome { change result self.new ≡ replaced (rounded_rectangle rect radii) (held self.old) }
+        ensures replaces { Replaces (Numbering (rounded_count rect (clamped_radii rect radii))) (rounded_rectangle rect radii) result self.old self.new }
     {
         if !is_place(rect.min) || !is_place(rect.max) || !radii.within_limits() {
             return Err(PathFault::OutOfLimits);
@@ -75,37 +74,37 @@ impl<'a> Places<'a> {
     }
 
     fn replace_by_square(&mut self, rect: Rect) -> Result<(), PathFault>
-        ensures { change result (held_places self.new) ≡ replaced (Ok (square rect)) (held_places self.old) }
+        ensures { change result self.new ≡ replaced (Ok (square rect)) (held self.old) }
     {
-        check_space(4, self.places.capacity())?;
+        self.reserve_all(4)?;
         self.clear();
         self.push_square(rect);
         Ok(())
     }
 
     fn push_square(&mut self, rect: Rect)
-        requires { 4 ≤ room (held_places self.old) }
-        ensures { held_places self.new ≡ extended (held_places self.old) (square rect) }
+        requires { 4 ≤ room (held self.old) }
+        ensures { held self.new ≡ extended (held self.old) (square rect) }
     {
         let Rect { min, max } = rect;
-        self.places.push(min);
-        self.places.push(Pos2 { x: max.x, y: min.y });
-        self.places.push(max);
-        self.places.push(Pos2 { x: min.x, y: max.y });
+        self.list.push(min);
+        self.list.push(Pos2 { x: max.x, y: min.y });
+        self.list.push(max);
+        self.list.push(Pos2 { x: min.x, y: max.y });
     }
 
     fn replace_by_corners(&mut self, corners: Corners) -> Result<(), PathFault>
-        ensures { change result (held_places self.new) ≡ replaced (Ok (joined corners)) (held_places self.old) }
+        ensures { change result self.new ≡ replaced (Ok (joined corners)) (held self.old) }
     {
-        check_space(corners.count(), self.places.capacity())?;
+        self.reserve_all(corners.count())?;
         self.clear();
         self.push_corners(corners);
         Ok(())
     }
 
     fn push_corners(&mut self, corners: Corners)
-        requires { length (joined corners) ≤ room (held_places self.old) }
-        ensures { held_places self.new ≡ extended (held_places self.old) (joined corners) }
+        requires { length (joined corners) ≤ room (held self.old) }
+        ensures { held self.new ≡ extended (held self.old) (joined corners) }
     {
         self.push_arc(corners.se);
         self.push_arc(corners.sw);
