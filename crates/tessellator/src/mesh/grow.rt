@@ -23,4 +23,15 @@ impl<'a> Mesh<'a> {
         self.indices
             .extend_from_slice(&[base + a, base + b, base + c]);
     }
+
+    /// The triangles on both sides of the edge from `b` to `c`.
+    pub(super) fn push_cell(&mut self, base: u32, a: u32, b: u32, c: u32, d: u32)
+        requires space { 6 ≤ index_room (mesh_state self.old) }
+        requires named { (base + a < length (mesh_state self.old).vertices) × ((base + b < length (mesh_state self.old).vertices) × ((base + c < length (mesh_state self.old).vertices) × (base + d < length (mesh_state self.old).vertices))) }
+        ensures { mesh_state self.new ≡ with_triangles base (mesh_state self.old) (tri a b c ∷ tri b c d ∷ []) }
+    {
+        let (b, c) = (base + b, base + c);
+        self.indices
+            .extend_from_slice(&[base + a, b, c, b, c, base + d]);
+    }
 }

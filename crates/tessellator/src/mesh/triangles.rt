@@ -66,8 +66,7 @@ impl<'a> Mesh<'a> {
         let from = rows * i;
         let to = rows * j;
         for r in 0..rows - 1 {
-            self.push_triangle(base, from + r, from + (r + 1), to + r);
-            self.push_triangle(base, from + (r + 1), to + r, to + (r + 1));
+            self.push_cell(base, from + r, from + (r + 1), to + r, to + (r + 1));
         }
     }
 
