@@ -1,10 +1,7 @@
 -- Appending another mesh.
-use Rattle.std.proofs.Common.{◌≡◌, ℕ, ◌+◌, ◌*◌, ◌%◌, ◌<◌, List, [], ◌∷◌, ◌++◌, map, length, get_or, drop, refl, ap, ◌∙◌, arith}
-use Rattle.std.proofs.lemmas.List.{length-take, get_or-take}
-use Rattle.tessellator.specs.State.{MeshState, mesh_state, joined, with_vertices, with_triangles, with_texture}
+use Rattle.std.proofs.Common.{◌≡◌, ℕ, ◌+◌, ◌*◌, ◌%◌, List, [], ◌∷◌, ◌++◌, map, length, drop, refl, ap, ◌∙◌, arith}
+use Rattle.tessellator.specs.State.{MeshState, joined, with_vertices, with_triangles, with_texture}
 use Rattle.tessellator.specs.Triangles.{flat, raised, triples}
-use Rattle.tessellator.specs.declared.fault.Appended.{Appended}
-use Rattle.tessellator.specs.declared.mesh.Mesh.{Mesh}
 use Rattle.tessellator.proofs.Triples.{length-triples}
 
 raised_flat : (b : ℕ) (is : List ℕ) → length is % 3 ≡ 0 → flat (raised b (triples is)) ≡ map (λ i. b + i) is

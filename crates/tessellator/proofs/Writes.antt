@@ -1,7 +1,7 @@
 -- Writes behind what a mesh has, and the room that is left there.
 use Rattle.std.proofs.Common.{◌≡◌, ℕ, zero, suc, ◌+◌, ◌*◌, ◌%◌, ◌<◌, ◌≤◌, List, [], ◌∷◌, ◌++◌, length, get_or, drop, sym, ap, ◌∙◌, subst, mul-le-mul_left, mul-suc, arith, length-append}
 use Rattle.slice_vec.proofs.Writing.{all_pushed, used_few}
-use Rattle.slice_vec.specs.Held.{Held, held, pushed, extended, room}
+use Rattle.slice_vec.specs.Held.{Held, pushed, extended, room}
 use Rattle.ecolor.specs.declared.vertex.Vertex.{Vertex}
 use Rattle.tessellator.specs.declared.mesh.Mesh.{Mesh}
 use Rattle.tessellator.specs.State.{MeshState, mesh_state, with_vertices, with_triangles, vertex_room, index_room}

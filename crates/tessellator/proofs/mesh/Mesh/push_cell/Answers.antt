@@ -1,4 +1,4 @@
-use Rattle.std.proofs.Common.{◌+◌, ◌<◌, ℕ, [], ◌∷◌, ◌++◌, length, get_or, append_assoc, sym, subst}
+use Rattle.std.proofs.Common.{◌+◌, ◌<◌, ℕ, [], ◌∷◌, ◌++◌, length, get_or, append_assoc, subst}
 use Rattle.slice_vec.specs.Held.{held}
 use Rattle.tessellator.specs.State.{mesh_state}
 use Rattle.tessellator.specs.Triangles.{tri}
