@@ -7,7 +7,8 @@ ghost use Rattle.cutting.specs.Parts.{vertices_of};
 use ecolor::vertex::{TextureId, Vertex};
 use tessellator::finished::Finished;
 
-/// A row of vertices and a row of indices of the mesh. The 16-bit indices count from the part's first vertex.
+/// A row of vertices and a row of indices of the mesh, each by its first and its count, since the memory is another's.
+/// The 16-bit indices count from the part's first vertex.
 #[derive(Clone, Copy, Default, PartialEq)]
 pub struct Part {
     pub first_vertex: usize,

@@ -35,7 +35,7 @@ impl TryFrom<u8> for Quadrant {
     }
 }
 
-/// A quadrant of a circle, with its last place or without it.
+/// A quadrant of a circle, with its last place or without it: a fact by itself, with no value beside it.
 #[derive(Clone, Copy)]
 pub(crate) struct Arc {
     pub(crate) circle: Circle,

@@ -94,6 +94,7 @@ fn print_line(rt: &HostRuntime, line: Line) -> anyhow::Result<()> {
     print_all(rt, path.as_slice())
 }
 
+// Beside `print_line`: one call differs, and a parameter for it would be longer.
 fn print_loop(rt: &HostRuntime, line: Line) -> anyhow::Result<()> {
     let name = line.name;
     let mut points = [PathPoint::default(); 6];

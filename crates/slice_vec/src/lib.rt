@@ -8,6 +8,7 @@ use map::Same;
 pub mod map;
 
 /// At most `MAX` items: of the memory `capacity` places may be used, and the first `len` are.
+/// A slice with a count, and no `Vec`: the memory is lent, and there is no heap.
 #[derive(Drop)]
 pub struct SliceVec<'a, T, const MAX: usize> {
     items: &'a mut [T],

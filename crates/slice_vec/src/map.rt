@@ -34,6 +34,7 @@ fn write_each<S: Copy, T: Copy, M: Map<S, T>>(items: &mut [T], sources: &[S], by
     requires { length items.old ≡ length sources.now }
     ensures { items.new ≡ map (M.image by.now) sources.now }
 {
+    // By number: over `items.iter_mut().zip(sources)` nothing is known of what was written.
     for (i, source) in sources.iter().enumerate() {
         items[i] = by.image(*source);
     }

@@ -1,7 +1,7 @@
 -- What a mesh holds: what is in use, and the rest of the lent memory as it stands.
-use Rattle.std.specs.Prelude.{ℕ, ◌+◌, ◌-◌, ◌*◌, min, Bool, List, [], ◌++◌, map, length, drop, ◌==◌}
+use Rattle.std.specs.Prelude.{ℕ, ◌+◌, ◌-◌, ◌*◌, ◌<◌, min, Bool, List, [], ◌++◌, map, length, drop, ◌==◌}
 use Rattle.slice_vec.specs.Held.{held}
-use Rattle.tessellator.specs.Triangles.{Triangle, flat, raised}
+use Rattle.tessellator.specs.Triangles.{Triangle, tri, flat, raised}
 use Rattle.tessellator.specs.declared.finished.Finished.{Finished}
 use Rattle.tessellator.specs.declared.mesh.Mesh.{Mesh}
 use Rattle.ecolor.specs.declared.vertex.TextureId.{TextureId}
@@ -52,6 +52,10 @@ with_triangles base m triangles = record {
 -- A figure comes after what the mesh has: its vertex numbers are raised by the old vertex count.
 abbrev pub appended : MeshState → List Vertex → List Triangle → MeshState
 appended m vs triangles = with_triangles (length m.vertices) (with_vertices m vs) triangles
+
+-- a triangle among the vertices from `base` on names three of them
+abbrev pub InMesh : ℕ → Triangle → MeshState → Type 0
+InMesh base (tri x y z) m = (base + x < length m.vertices) × ((base + y < length m.vertices) × (base + z < length m.vertices))
 
 -- The space left: at most 16,777,216 vertices and 100,663,296 indices are held.
 unfoldable pub vertex_room : MeshState → ℕ

@@ -145,6 +145,7 @@ impl<'a> Path<'a> {
         Ok(())
     }
 
+    // Beside `push_open`: the two loops begin and end otherwise.
     fn push_loop(&mut self, last: Pos2, first: Pos2, rest: &[Pos2])
         requires { 1 + length rest.now ≤ room (held self.old) }
         ensures { held self.new ≡ extended (held self.old) (loop_corners (edge_normal last first) (edge_normal last first) first rest.now) }

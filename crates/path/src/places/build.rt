@@ -73,6 +73,7 @@ impl<'a> Places<'a> {
         }
     }
 
+    // Beside `replace_by_corners`: one function for both would take a trait of two methods for three lines.
     fn replace_by_square(&mut self, rect: Rect) -> Result<(), PathFault>
         ensures { change result self.new ≡ replaced (Ok (square rect)) (held self.old) }
     {

@@ -45,8 +45,11 @@ impl<'a> Mesh<'a> {
         requires { JointFits Skirt base i j (mesh_state self.old) }
         ensures { mesh_state self.new ≡ with_triangles base (mesh_state self.old) (skirt i j) }
     {
-        self.push_triangle(base, 2 * j, 2 * i, 2 * i + 1);
-        self.push_triangle(base, 2 * i + 1, 2 * j + 1, 2 * j);
+        self.push_pair(
+            base,
+            [2 * j, 2 * i, 2 * i + 1],
+            [2 * i + 1, 2 * j + 1, 2 * j],
+        );
     }
 
     /// Between two points of a hard line.
@@ -54,8 +57,11 @@ impl<'a> Mesh<'a> {
         requires { JointFits Plank base i j (mesh_state self.old) }
         ensures { mesh_state self.new ≡ with_triangles base (mesh_state self.old) (plank i j) }
     {
-        self.push_triangle(base, 2 * i, 2 * i + 1, 2 * j);
-        self.push_triangle(base, 2 * j, 2 * i + 1, 2 * j + 1);
+        self.push_pair(
+            base,
+            [2 * i, 2 * i + 1, 2 * j],
+            [2 * j, 2 * i + 1, 2 * j + 1],
+        );
     }
 
     /// Between all rows of two points.
@@ -66,7 +72,11 @@ impl<'a> Mesh<'a> {
         let from = rows * i;
         let to = rows * j;
         for r in 0..rows - 1 {
-            self.push_cell(base, from + r, from + (r + 1), to + r, to + (r + 1));
+            self.push_pair(
+                base,
+                [from + r, from + (r + 1), to + r],
+                [from + (r + 1), to + r, to + (r + 1)],
+            );
         }
     }
 
@@ -77,8 +87,7 @@ impl<'a> Mesh<'a> {
         ensures { mesh_state self.new ≡ with_triangles base (mesh_state self.old) (cap i) }
     {
         let from = 4 * i;
-        self.push_triangle(base, from, from + 1, from + 2);
-        self.push_triangle(base, from, from + 2, from + 3);
+        self.push_pair(base, [from, from + 1, from + 2], [from, from + 2, from + 3]);
     }
 
     /// The points' vertices in one row, as a polygon.
