@@ -46,10 +46,9 @@ fn print_parts(rt: &HostRuntime, mesh: &Finished) -> anyhow::Result<()> {
             println!(rt; "cut: refused {number}")?;
         }
     }
-    let mut sum = 0u64;
-    for index in indices.iter() {
-        sum = sum.saturating_add(u64::from(*index));
-    }
+    let sum = indices
+        .iter()
+        .fold(0u64, |sum, index| sum.saturating_add(u64::from(*index)));
     println!(rt; "  sum {sum}")?;
     Ok(())
 }

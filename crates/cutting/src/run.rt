@@ -27,6 +27,7 @@ impl<'a> Iterator for Runs<'a> {
     fn next(&mut self) -> Option<Run<'a>> {
         let (first, others) = self.0.split_first()?;
         let mut span = Span::of_triangle(*first);
+        // Counted by hand: the span grows with the count, which no closure of a chain may change.
         let mut end = 1;
         for triangle in others {
             let wider = span.joined(Span::of_triangle(*triangle));

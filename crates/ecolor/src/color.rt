@@ -28,6 +28,7 @@ impl Color32 {
         a: 0,
     };
 
+    // A call beside `==`, since contracts name what it answers.
     pub fn is_transparent(self) -> bool
         ensures { result ≡ colors.is_transparent self }
     {

@@ -17,6 +17,13 @@ pub trait ColorRule {
 
     ghost READS_BOX: { Bool };
 
+    /// `READS_BOX`.
+    fn consults_box() -> bool
+        ensures { result ≡ READS_BOX }
+    {
+        Self::READS_BOX
+    }
+
     ghost colour: { Self → Rect → Pos2 → Color32 };
 
     ghost plain: { Self → Option Color32 };

@@ -24,6 +24,7 @@ impl TextureId {
     /// The texture of a mesh without one of its own.
     pub const DEFAULT: TextureId = TextureId::Managed(0);
 
+    // Calls beside `==`, since contracts name what they answer.
     pub fn is_default(self) -> bool
         ensures { result ≡ vertices.is_default self }
     {

@@ -76,21 +76,38 @@ fn print_in<'x>(
     print_figures(rt, bytes, &mut path, places, &mut mesh)
 }
 
-/// Runs a file with so many points, vertices and indices lent.
+/// How many points, vertices and indices are lent.
+#[derive(Clone, Copy)]
+struct Room {
+    points: usize,
+    vertices: usize,
+    indices: usize,
+}
+
+impl Room {
+    fn new(points: usize, vertices: usize, indices: usize) -> Room {
+        Room {
+            points,
+            vertices,
+            indices,
+        }
+    }
+}
+
+/// Runs a file in memory of such a size.
 fn print_file_in(
     rt: &HostRuntime,
     name: &str,
     bytes: &[u8],
     texture: TextureId,
-    room: [usize; 3],
+    room: Room,
 ) -> anyhow::Result<()> {
     println!(rt; "{name}")?;
     let heap = rt.alloc();
-    let [p, v, i] = room;
-    let mut points = vec![in heap; PathPoint::default(); p]?;
+    let mut points = vec![in heap; PathPoint::default(); room.points]?;
     let mut places = vec![in heap; Pos2::default(); 6_144]?;
-    let mut vertices = vec![in heap; Vertex::default(); v]?;
-    let mut indices = vec![in heap; 0u32; i]?;
+    let mut vertices = vec![in heap; Vertex::default(); room.vertices]?;
+    let mut indices = vec![in heap; 0u32; room.indices]?;
     print_in(
         rt,
         bytes,
@@ -103,7 +120,13 @@ fn print_file_in(
 }
 
 fn print_file(rt: &HostRuntime, name: &str, bytes: &[u8]) -> anyhow::Result<()> {
-    print_file_in(rt, name, bytes, TextureId::DEFAULT, [512, 2_048, 12_288])
+    print_file_in(
+        rt,
+        name,
+        bytes,
+        TextureId::DEFAULT,
+        Room::new(512, 2_048, 12_288),
+    )
 }
 
 /// One record after another.
@@ -156,35 +179,35 @@ fn print_faults_of_space(rt: &HostRuntime) -> anyhow::Result<()> {
         "space for just the figure",
         &bytes,
         TextureId::DEFAULT,
-        [2, 8, 30],
+        Room::new(2, 8, 30),
     )?;
     print_file_in(
         rt,
         "one point short",
         &bytes,
         TextureId::DEFAULT,
-        [1, 8, 30],
+        Room::new(1, 8, 30),
     )?;
     print_file_in(
         rt,
         "one vertex and one index short",
         &bytes,
         TextureId::DEFAULT,
-        [2, 7, 29],
+        Room::new(2, 7, 29),
     )?;
     print_file_in(
         rt,
         "one index short",
         &bytes,
         TextureId::DEFAULT,
-        [2, 8, 29],
+        Room::new(2, 8, 29),
     )?;
     print_file_in(
         rt,
         "another texture, and no space",
         &bytes,
         TextureId::User(0),
-        [2, 0, 0],
+        Room::new(2, 0, 0),
     )
 }
 

@@ -8,8 +8,7 @@ use ecolor::vertex::{TextureId, Vertex};
 use emath::plane::Pos2;
 use path::path::Path;
 use path::point::PathPoint;
-use printed::Printed;
-use std::fmt;
+use printed::print_all;
 use tessellator::mesh::Mesh;
 use tessellator::stroke::open::stroke_open;
 use tessellator::stroke::{PathStroke, StrokeKind};
@@ -75,17 +74,6 @@ const SCALE: Zones = Zones {
         a: 4,
     },
 };
-
-/// A line for each of them.
-fn print_all<T: Copy>(rt: &HostRuntime, items: &[T]) -> anyhow::Result<()>
-where
-    Printed<T>: fmt::Display,
-{
-    for item in items {
-        println!(rt; "  {}", Printed(*item))?;
-    }
-    Ok(())
-}
 
 fn print_triangles(rt: &HostRuntime, indices: &[u32]) -> anyhow::Result<()> {
     for corners in indices.chunks(3) {

@@ -5,7 +5,7 @@ use crate::fault::PathFault;
 use crate::space::{MAX_ITEMS, check_space};
 use slice_vec::SliceVec;
 
-/// Path points, or places.
+/// Path points, or places. A type around the list, whose own calls it passes on, so that no caller can push to it.
 #[derive(Drop)]
 pub struct Lent<'a, T> {
     pub(crate) list: SliceVec<'a, T, MAX_ITEMS>,

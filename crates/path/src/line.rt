@@ -105,7 +105,8 @@ fn corner_count(corner: Corner) -> usize
     }
 }
 
-/// How many points the open line from `first` over `second` and the rest has.
+/// How many points the open line from `first` over `second` and the rest has. Three parameters, as a pattern takes them
+/// from the places: a struct of them would be made only to be taken apart. It walks as `push_open` does, and writes nothing.
 pub(crate) fn open_count(first: Pos2, second: Pos2, rest: &[Pos2]) -> usize
     requires { length rest.now ≤ 1048576 }
     ensures { result ≡ length (lines.open_points (first ∷ second ∷ rest.now)) }

@@ -22,9 +22,9 @@ const BATCHES: u32 = 40;
 const BATCH_POINTS: usize = 20_000;
 
 #[derive(Clone, Copy)]
-enum Figure {
-    Line,
-    Loop,
+enum Figure<'p> {
+    Line(&'p [Pos2]),
+    Loop(&'p [Pos2]),
     Circle(f32),
 }
 
@@ -38,23 +38,18 @@ fn place_at(i: u32) -> Pos2 {
     }
 }
 
-fn build(path: &mut Path, figure: Figure, places: &[Pos2]) -> Result<(), PathFault> {
+fn build(path: &mut Path, figure: Figure) -> Result<(), PathFault> {
     path.clear();
     match figure {
-        Figure::Line => path.add_open_points(places),
-        Figure::Loop => path.add_line_loop(places),
+        Figure::Line(places) => path.add_open_points(places),
+        Figure::Loop(places) => path.add_line_loop(places),
         Figure::Circle(radius) => path.add_circle(CENTER, radius),
     }
 }
 
-fn build_often(
-    path: &mut Path,
-    figure: Figure,
-    places: &[Pos2],
-    times: usize,
-) -> anyhow::Result<()> {
+fn build_often(path: &mut Path, figure: Figure, times: usize) -> anyhow::Result<()> {
     for _ in 0..times {
-        if build(path, figure, places).is_err() {
+        if build(path, figure).is_err() {
             return Err(anyhow!("refused"));
         }
     }
@@ -62,33 +57,22 @@ fn build_often(
 }
 
 /// The least time of a batch, over the number of its paths, in tenths of a nanosecond.
-fn least_time(
-    rt: &HostRuntime,
-    path: &mut Path,
-    figure: Figure,
-    places: &[Pos2],
-) -> anyhow::Result<u128> {
-    build_often(path, figure, places, 1)?;
+fn least_time(rt: &HostRuntime, path: &mut Path, figure: Figure) -> anyhow::Result<u128> {
+    build_often(path, figure, 1)?;
     let times = BATCH_POINTS / path.as_slice().len().max(1) + 1;
     let mut least = u128::MAX;
     for _ in 0..BATCHES {
         let start = Instant::now(rt)?;
-        build_often(path, figure, places, times)?;
+        build_often(path, figure, times)?;
         least = least.min(start.elapsed(rt)?.as_nanos());
     }
     Ok(least.saturating_mul(10) / times as u128)
 }
 
-fn measure(
-    rt: &HostRuntime,
-    name: &str,
-    size: u16,
-    figure: Figure,
-    places: &[Pos2],
-) -> anyhow::Result<()> {
+fn measure(rt: &HostRuntime, name: &str, size: u16, figure: Figure) -> anyhow::Result<()> {
     let mut points = [PathPoint::default(); 2000];
     let mut path = Path::new(&mut points);
-    let tenths = least_time(rt, &mut path, figure, places)?;
+    let tenths = least_time(rt, &mut path, figure)?;
     let count = path.as_slice().len();
     let (whole, rest) = (tenths / 10, tenths % 10);
     println!(rt; "{name} {size}: {count} points")?;
@@ -103,18 +87,12 @@ fn main(rt: HostRuntime) -> anyhow::Result<()> {
     }
     for length in LENGTHS {
         if let Some(part) = places.get(0..usize::from(length)) {
-            measure(&rt, "line", length, Figure::Line, part)?;
-            measure(&rt, "loop", length, Figure::Loop, part)?;
+            measure(&rt, "line", length, Figure::Line(part))?;
+            measure(&rt, "loop", length, Figure::Loop(part))?;
         }
     }
     for radius in RADII {
-        measure(
-            &rt,
-            "circle",
-            radius,
-            Figure::Circle(f32::from(radius)),
-            &[],
-        )?;
+        measure(&rt, "circle", radius, Figure::Circle(f32::from(radius)))?;
     }
     Ok(())
 }

@@ -13,19 +13,8 @@ use path::fault::PathFault;
 use path::path::Path;
 use path::places::Places;
 use path::point::PathPoint;
-use printed::{Bits, Printed};
+use printed::{Bits, Printed, print_all};
 use std::fmt;
-
-/// A line for each of them.
-fn print_all<T: Copy>(rt: &HostRuntime, items: &[T]) -> anyhow::Result<()>
-where
-    Printed<T>: fmt::Display,
-{
-    for item in items {
-        println!(rt; "  {}", Printed(*item))?;
-    }
-    Ok(())
-}
 
 /// The first, the second, the middle one and the last.
 fn print_few<T: Copy>(rt: &HostRuntime, items: &[T]) -> anyhow::Result<()>
@@ -41,7 +30,7 @@ where
     Ok(())
 }
 
-/// How many of the items are printed.
+/// How many of the items are printed. By name, since two closures would each have to be passed with its bound.
 #[derive(Clone, Copy)]
 enum Shown {
     All,
@@ -59,10 +48,7 @@ where
 }
 
 fn accepted(answer: Result<(), PathFault>) -> anyhow::Result<()> {
-    match answer {
-        Ok(()) => Ok(()),
-        Err(_) => Err(anyhow!("refused")),
-    }
+    answer.map_err(|_| anyhow!("refused"))
 }
 
 fn print_circle(rt: &HostRuntime, radius: f32, shown: Shown) -> anyhow::Result<()> {
@@ -94,7 +80,7 @@ fn print_line(rt: &HostRuntime, line: Line) -> anyhow::Result<()> {
     print_all(rt, path.as_slice())
 }
 
-// Beside `print_line`: one call differs, and a parameter for it would be longer.
+// Beside `print_line`: the memory, the word and the call differ, and three parameters for them would be longer.
 fn print_loop(rt: &HostRuntime, line: Line) -> anyhow::Result<()> {
     let name = line.name;
     let mut points = [PathPoint::default(); 6];

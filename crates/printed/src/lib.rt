@@ -57,3 +57,14 @@ impl fmt::Display for Printed<Vertex> {
         )
     }
 }
+
+/// A line for each of them.
+pub fn print_all<T: Copy>(rt: &HostRuntime, items: &[T]) -> anyhow::Result<()>
+where
+    Printed<T>: fmt::Display,
+{
+    for item in items {
+        println!(rt; "  {}", Printed(*item))?;
+    }
+    Ok(())
+}

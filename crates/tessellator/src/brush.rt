@@ -21,8 +21,7 @@ impl Paint {
     {
         match self {
             Paint::Flat(color) => color,
-            Paint::Core => Color32::TRANSPARENT,
-            Paint::Faded(_) => Color32::TRANSPARENT,
+            Paint::Core | Paint::Faded(_) => Color32::TRANSPARENT,
         }
     }
 }

@@ -9,6 +9,7 @@ ghost use Rattle.tessellator.specs.State.{mesh_state};
 use crate::brush::Brush;
 use crate::kind::Kind;
 use crate::mesh::Mesh;
+use crate::mesh::vertices::Vertices;
 use crate::row::Row;
 use path::path::Path;
 
@@ -22,5 +23,9 @@ pub(crate) fn draw_rows<B: Brush>(path: &Path, rows: &[Row], brush: &B, kind: Ki
     let points = path.as_slice();
     let base = out.next_vertex();
     out.add_rows(points, rows, brush);
-    out.add_triangles(base, kind, points.len() as u32);
+    let own = Vertices {
+        base,
+        points: points.len() as u32,
+    };
+    out.add_triangles(own, kind);
 }

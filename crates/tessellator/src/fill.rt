@@ -72,6 +72,7 @@ impl Filling {
         ]
     }
 
+    // Its sizing and its drawing go as a pen's do: a trait for both would be longer than these lines.
     /// What the fill would append, with space enough.
     fn size(self, path: &Path) -> Result<Appended, FigureFault>
         ensures { told result ≡ sizing (fills.fill_allowed self.feathering (held path.now).used) (fills.fill_figure self.feathering self.color (held path.now).used) }

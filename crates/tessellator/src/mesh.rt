@@ -14,6 +14,7 @@ pub mod read;
 mod room;
 mod rows;
 mod triangles;
+pub(crate) mod vertices;
 
 const MAX_VERTICES: usize = 16_777_216;
 

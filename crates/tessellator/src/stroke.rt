@@ -9,7 +9,7 @@ mod outline;
 mod pen;
 
 /// Where a stroke lies beside its path.
-#[derive(Clone, Copy)]
+#[derive(Clone, Copy, PartialEq, Eq)]
 pub enum StrokeKind {
     Inside,
     Middle,

@@ -1,4 +1,4 @@
-//! The triangles of each kind of figure, whose first vertex is the mesh's vertex `base`.
+//! The triangles of each kind of figure.
 ghost use Rattle.std.specs.Prelude.{◌≡◌};
 ghost use Rattle.tessellator.specs.Kinds.{triangles};
 ghost use Rattle.tessellator.specs.Outcome.{TrianglesFit};
@@ -8,82 +8,86 @@ ghost use Rattle.tessellator.specs.declared.stroke.Style.TheVariants.{Hard, Thic
 
 use super::Mesh;
 use super::joint::Joint;
+use super::vertices::Vertices;
 use crate::kind::Kind;
 use crate::stroke::Style;
 
 impl<'a> Mesh<'a> {
-    pub(crate) fn add_triangles(&mut self, base: u32, kind: Kind, points: u32)
-        requires { TrianglesFit kind base points (mesh_state self.old) }
-        ensures { mesh_state self.new ≡ with_triangles base (mesh_state self.old) (triangles kind points) }
+    pub(crate) fn add_triangles(&mut self, own: Vertices, kind: Kind)
+        requires { TrianglesFit kind own.base own.points (mesh_state self.old) }
+        ensures { mesh_state self.new ≡ with_triangles own.base (mesh_state self.old) (triangles kind own.points) }
     {
         match kind {
             Kind::Nothing => {}
-            Kind::HardFill => self.add_polygon(base, points),
-            Kind::FeatheredFill => self.add_feathered(base, points),
-            Kind::Line(style) => self.add_line(base, style, points),
-            Kind::Loop(style) => self.add_loop(base, style, points),
-            Kind::Filled(style) => self.add_filled(base, style, points),
+            Kind::HardFill => self.add_polygon(own),
+            Kind::FeatheredFill => self.add_feathered(own),
+            Kind::Line(style) => self.add_line(own, style),
+            Kind::Loop(style) => self.add_loop(own, style),
+            Kind::Filled(style) => self.add_filled(own, style),
         }
     }
 
-    fn add_feathered(&mut self, base: u32, points: u32)
-        requires { TrianglesFit FeatheredFill base points (mesh_state self.old) }
-        ensures { mesh_state self.new ≡ with_triangles base (mesh_state self.old) (triangles FeatheredFill points) }
+    fn add_feathered(&mut self, own: Vertices)
+        requires { TrianglesFit FeatheredFill own.base own.points (mesh_state self.old) }
+        ensures { mesh_state self.new ≡ with_triangles own.base (mesh_state self.old) (triangles FeatheredFill own.points) }
     {
-        self.add_fan(base, 2, 0, points);
-        self.add_closed(base, Joint::Skirt, points);
+        self.add_fan(own, 2, 0);
+        self.add_closed(own, Joint::Skirt);
     }
 
-    fn add_line(&mut self, base: u32, style: Style, points: u32)
-        requires { TrianglesFit (Line style) base points (mesh_state self.old) }
-        ensures { mesh_state self.new ≡ with_triangles base (mesh_state self.old) (triangles (Line style) points) }
+    fn add_line(&mut self, own: Vertices, style: Style)
+        requires { TrianglesFit (Line style) own.base own.points (mesh_state self.old) }
+        ensures { mesh_state self.new ≡ with_triangles own.base (mesh_state self.old) (triangles (Line style) own.points) }
     {
         match style {
-            Style::Hard => self.add_joints(base, Joint::Plank, points),
-            Style::Thin => self.add_joints(base, Joint::Rows(3), points),
-            Style::Thick => self.add_capped(base, points),
+            Style::Hard => self.add_joints(own, Joint::Plank),
+            Style::Thin => self.add_joints(own, Joint::Rows(3)),
+            Style::Thick => self.add_capped(own),
         }
     }
 
     /// A thick line, with two triangles at each end.
-    fn add_capped(&mut self, base: u32, points: u32)
-        requires { TrianglesFit (Line Thick) base points (mesh_state self.old) }
-        ensures { mesh_state self.new ≡ with_triangles base (mesh_state self.old) (triangles (Line Thick) points) }
+    fn add_capped(&mut self, own: Vertices)
+        requires { TrianglesFit (Line Thick) own.base own.points (mesh_state self.old) }
+        ensures { mesh_state self.new ≡ with_triangles own.base (mesh_state self.old) (triangles (Line Thick) own.points) }
     {
-        self.add_cap(base, 0);
-        self.add_joints(base, Joint::Rows(4), points);
-        self.add_cap(base, points - 1);
+        self.add_cap(own.base, 0);
+        self.add_joints(own, Joint::Rows(4));
+        self.add_cap(own.base, own.points - 1);
     }
 
-    fn add_loop(&mut self, base: u32, style: Style, points: u32)
-        requires { TrianglesFit (Loop style) base points (mesh_state self.old) }
-        ensures { mesh_state self.new ≡ with_triangles base (mesh_state self.old) (triangles (Loop style) points) }
+    fn add_loop(&mut self, own: Vertices, style: Style)
+        requires { TrianglesFit (Loop style) own.base own.points (mesh_state self.old) }
+        ensures { mesh_state self.new ≡ with_triangles own.base (mesh_state self.old) (triangles (Loop style) own.points) }
     {
         match style {
-            Style::Hard => self.add_hard_loop(base, points),
-            Style::Thin => self.add_closed(base, Joint::Rows(3), points),
-            Style::Thick => self.add_closed(base, Joint::Rows(4), points),
+            Style::Hard => self.add_hard_loop(own),
+            Style::Thin => self.add_closed(own, Joint::Rows(3)),
+            Style::Thick => self.add_closed(own, Joint::Rows(4)),
         }
     }
 
-    fn add_hard_loop(&mut self, base: u32, points: u32)
-        requires { TrianglesFit (Loop Hard) base points (mesh_state self.old) }
-        ensures { mesh_state self.new ≡ with_triangles base (mesh_state self.old) (triangles (Loop Hard) points) }
+    fn add_hard_loop(&mut self, own: Vertices)
+        requires { TrianglesFit (Loop Hard) own.base own.points (mesh_state self.old) }
+        ensures { mesh_state self.new ≡ with_triangles own.base (mesh_state self.old) (triangles (Loop Hard) own.points) }
     {
-        self.add_joints(base, Joint::Plank, points);
-        self.add_plank(base, points - 1, 0);
+        self.add_joints(own, Joint::Plank);
+        self.add_plank(own.base, own.points - 1, 0);
     }
 
     /// A loop, and the fill within its last row. That of a hard loop has vertices of its own.
-    fn add_filled(&mut self, base: u32, style: Style, points: u32)
-        requires { TrianglesFit (Filled style) base points (mesh_state self.old) }
-        ensures { mesh_state self.new ≡ with_triangles base (mesh_state self.old) (triangles (Filled style) points) }
+    fn add_filled(&mut self, own: Vertices, style: Style)
+        requires { TrianglesFit (Filled style) own.base own.points (mesh_state self.old) }
+        ensures { mesh_state self.new ≡ with_triangles own.base (mesh_state self.old) (triangles (Filled style) own.points) }
     {
-        self.add_loop(base, style, points);
+        self.add_loop(own, style);
         match style {
-            Style::Hard => self.add_polygon(base + 2 * points, points),
-            Style::Thin => self.add_fan(base, 3, 2, points),
-            Style::Thick => self.add_fan(base, 4, 3, points),
+            Style::Hard => self.add_polygon(Vertices {
+                base: own.base + 2 * own.points,
+                points: own.points,
+            }),
+            Style::Thin => self.add_fan(own, 3, 2),
+            Style::Thick => self.add_fan(own, 4, 3),
         }
     }
 }

@@ -1,4 +1,4 @@
-//! Triangles among the vertices of a figure, whose first is the mesh's vertex `base`.
+//! Triangles among the vertices of a figure, whose first is the mesh's vertex `base`. The loops count points and rows.
 ghost use Rattle.std.specs.Prelude.{◌≡◌, ◌+◌, ◌-◌, ◌*◌, ◌<◌, ◌≤◌, length};
 ghost use Rattle.tessellator.specs.Joints.{JointFits, JointsFit, closed, joint, joints};
 ghost use Rattle.tessellator.specs.Kinds.{band, cap, fan, plank, polygon, skirt};
@@ -7,6 +7,7 @@ ghost use Rattle.tessellator.specs.declared.mesh.joint.Joint.TheVariants.{Plank,
 
 use super::Mesh;
 use super::joint::Joint;
+use super::vertices::Vertices;
 
 impl<'a> Mesh<'a> {
     /// The triangles between the points i and j.
@@ -22,22 +23,22 @@ impl<'a> Mesh<'a> {
     }
 
     /// From each of the first points to the next.
-    pub(super) fn add_joints(&mut self, base: u32, kind: Joint, points: u32)
-        requires { JointsFit kind base points (points - 1) (mesh_state self.old) }
-        ensures { mesh_state self.new ≡ with_triangles base (mesh_state self.old) (joints kind points) }
+    pub(super) fn add_joints(&mut self, own: Vertices, kind: Joint)
+        requires { JointsFit kind own.base own.points (own.points - 1) (mesh_state self.old) }
+        ensures { mesh_state self.new ≡ with_triangles own.base (mesh_state self.old) (joints kind own.points) }
     {
-        for i in 0..points - 1 {
-            self.add_joint(base, kind, i, i + 1);
+        for i in 0..own.points - 1 {
+            self.add_joint(own.base, kind, i, i + 1);
         }
     }
 
     /// The same, after the joint from the last point to the first.
-    pub(super) fn add_closed(&mut self, base: u32, kind: Joint, points: u32)
-        requires { JointsFit kind base points points (mesh_state self.old) }
-        ensures { mesh_state self.new ≡ with_triangles base (mesh_state self.old) (closed kind points) }
+    pub(super) fn add_closed(&mut self, own: Vertices, kind: Joint)
+        requires { JointsFit kind own.base own.points own.points (mesh_state self.old) }
+        ensures { mesh_state self.new ≡ with_triangles own.base (mesh_state self.old) (closed kind own.points) }
     {
-        self.add_joint(base, kind, points - 1, 0);
-        self.add_joints(base, kind, points);
+        self.add_joint(own.base, kind, own.points - 1, 0);
+        self.add_joints(own, kind);
     }
 
     /// Between two points of a feathered fill.
@@ -91,27 +92,27 @@ impl<'a> Mesh<'a> {
     }
 
     /// The points' vertices in one row, as a polygon.
-    pub(super) fn add_fan(&mut self, base: u32, rows: u32, row: u32, points: u32)
-        requires enough { 2 ≤ points }
+    pub(super) fn add_fan(&mut self, own: Vertices, rows: u32, row: u32)
+        requires enough { 2 ≤ own.points }
         requires row_exists { row < rows }
-        requires vertices { base + rows * points ≤ length (mesh_state self.old).vertices }
-        requires space { 3 * (points - 2) ≤ index_room (mesh_state self.old) }
-        ensures { mesh_state self.new ≡ with_triangles base (mesh_state self.old) (fan rows row points) }
+        requires vertices { own.base + rows * own.points ≤ length (mesh_state self.old).vertices }
+        requires space { 3 * (own.points - 2) ≤ index_room (mesh_state self.old) }
+        ensures { mesh_state self.new ≡ with_triangles own.base (mesh_state self.old) (fan rows row own.points) }
     {
-        for i in 0..points - 2 {
-            self.push_triangle(base, rows * (i + 1) + row, row, rows * (i + 2) + row);
+        for i in 0..own.points - 2 {
+            self.push_triangle(own.base, rows * (i + 1) + row, row, rows * (i + 2) + row);
         }
     }
 
     /// All vertices of a hard fill, as a polygon.
-    pub(super) fn add_polygon(&mut self, base: u32, points: u32)
-        requires enough { 2 ≤ points }
-        requires vertices { base + points ≤ length (mesh_state self.old).vertices }
-        requires space { 3 * (points - 2) ≤ index_room (mesh_state self.old) }
-        ensures { mesh_state self.new ≡ with_triangles base (mesh_state self.old) (polygon points) }
+    pub(super) fn add_polygon(&mut self, own: Vertices)
+        requires enough { 2 ≤ own.points }
+        requires vertices { own.base + own.points ≤ length (mesh_state self.old).vertices }
+        requires space { 3 * (own.points - 2) ≤ index_room (mesh_state self.old) }
+        ensures { mesh_state self.new ≡ with_triangles own.base (mesh_state self.old) (polygon own.points) }
     {
-        for i in 0..points - 2 {
-            self.push_triangle(base, 0, i + 1, i + 2);
+        for i in 0..own.points - 2 {
+            self.push_triangle(own.base, 0, i + 1, i + 2);
         }
     }
 }

@@ -16,6 +16,7 @@ use crate::draw::draw_rows;
 use crate::fill::Filling;
 use crate::kind::Kind;
 use crate::mesh::Mesh;
+use crate::mesh::vertices::Vertices;
 use ecolor::color::Color32;
 use ecolor::rule::ColorRule;
 use emath::rect::Rect;
@@ -29,9 +30,7 @@ impl Style {
     {
         match self {
             Style::Hard if points < 3 => Kind::Loop(Style::Hard),
-            Style::Hard => Kind::Filled(Style::Hard),
-            Style::Thin => Kind::Filled(Style::Thin),
-            Style::Thick => Kind::Filled(Style::Thick),
+            style => Kind::Filled(style),
         }
     }
 }
@@ -101,7 +100,11 @@ impl Outline {
             Course::Unjoined => {
                 let base = out.next_vertex();
                 self.add_thick_rows(points, brush, out);
-                out.add_triangles(base, kind, points.len() as u32);
+                let own = Vertices {
+                    base,
+                    points: points.len() as u32,
+                };
+                out.add_triangles(own, kind);
             }
             Course::Around(fill) => draw_rows(path, &self.thick_rows(fill), brush, kind, out),
         }
@@ -117,7 +120,11 @@ impl Outline {
         out.add_rows(path.as_slice(), &self.hard_rows(), brush);
         self.set_in(path);
         self.fill().add_inner(path.as_slice(), out);
-        out.add_triangles(base, self.course.kind(Style::Hard, n), n as u32);
+        let own = Vertices {
+            base,
+            points: n as u32,
+        };
+        out.add_triangles(own, self.course.kind(Style::Hard, n));
     }
 }
 

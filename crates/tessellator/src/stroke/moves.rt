@@ -24,10 +24,7 @@ impl Course {
     fn is_loop(self) -> bool
         ensures { result ≡ strokes.is_loop self }
     {
-        match self {
-            Course::Unjoined => false,
-            Course::Around(_) => true,
-        }
+        matches!(self, Course::Around(_))
     }
 }
 
@@ -35,10 +32,7 @@ impl StrokeKind {
     fn is_middle(self) -> bool
         ensures { result ≡ strokes.is_middle self }
     {
-        match self {
-            StrokeKind::Middle => true,
-            StrokeKind::Inside | StrokeKind::Outside => false,
-        }
+        self == StrokeKind::Middle
     }
 }
 

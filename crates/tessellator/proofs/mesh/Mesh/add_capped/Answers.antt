@@ -14,7 +14,7 @@ pub add_cap-requires-2 : goal.add_cap-requires-2
 add_cap-requires-2 c =
     let kept = vertices_kept _ _ _ _ c.add_cap.ensures in
     let kept' = vertices_kept _ _ _ _ c.add_joints.ensures in
-    let bands = length-joints (Rows 4) c.args.points in
+    let bands = length-joints (Rows 4) c.args.own.points in
     let fits = c.requires in
     record { vertices = omega arith; space = index_room_left _ _ _ _ c.add_joints.ensures 6 (index_room_left _ _ _ _ c.add_cap.ensures _ (omega arith)) }
 

@@ -26,7 +26,7 @@ pub loop-i-preserved : goal.loop-i-preserved
 loop-i-preserved c = triangles_step _ _ _ _ _ _ _ c.loop-i.invariant c.push_triangle.ensures (each_more _ c.loop-i.i)
 
 pub returns : goal.returns
-returns c = let e : c.loop-i.i ≡ c.args.points - 2 = omega (arith, c.requires.enough) in rw e at c.loop-i.invariant
+returns c = let e : c.loop-i.i ≡ c.args.own.points - 2 = omega (arith, c.requires.enough) in rw e at c.loop-i.invariant
 
 pub overflow_mul-rows-in-loop-i : goal.overflow_mul-rows-in-loop-i
 overflow_mul-rows-in-loop-i c = let k = point_within c.args.self.now _ _ _ (c.loop-i.i + 2) c.requires.vertices (omega arith) in omega arith

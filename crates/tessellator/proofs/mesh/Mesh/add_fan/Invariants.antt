@@ -5,4 +5,4 @@ use Rattle.tessellator.specs.Triangles.{tri}
 use Rattle.tessellator.proofs.mesh.Mesh.add_fan.Given as goal
 
 abbrev pub invariant-loop-i : goal.invariant-loop-i
-invariant-loop-i l = mesh_state l.self ≡ with_triangles l.base (mesh_state l.initial.self) (each l.i (λ i. tri (l.rows * (i + 1) + l.row) l.row (l.rows * (i + 2) + l.row) ∷ []))
+invariant-loop-i l = mesh_state l.self ≡ with_triangles l.own.base (mesh_state l.initial.self) (each l.i (λ i. tri (l.rows * (i + 1) + l.row) l.row (l.rows * (i + 2) + l.row) ∷ []))

@@ -6,7 +6,7 @@ use Rattle.tessellator.proofs.mesh.Mesh.add_feathered.Goals as goal
 pub add_closed-requires : goal.add_closed-requires
 add_closed-requires c =
     let kept = vertices_kept _ _ _ _ c.add_fan.ensures in
-    let long = length-fan 2 0 c.args.points in
+    let long = length-fan 2 0 c.args.own.points in
     let fits = c.requires in
     record { some_points = omega arith; some_rows = omega arith; vertices = omega arith; space = index_room_left _ _ _ _ c.add_fan.ensures _ (omega arith) }
 

@@ -7,7 +7,7 @@ use Rattle.tessellator.proofs.mesh.Mesh.add_hard_loop.Goals as goal
 pub add_plank-requires : goal.add_plank-requires
 add_plank-requires c =
     let kept = vertices_kept _ _ _ _ c.add_joints.ensures in
-    let long = length-joints Plank c.args.points in
+    let long = length-joints Plank c.args.own.points in
     let fits = c.requires in
     record { some_rows = omega arith; first = omega arith; second = omega arith; space = index_room_left _ _ _ _ c.add_joints.ensures 6 (omega arith) }
 

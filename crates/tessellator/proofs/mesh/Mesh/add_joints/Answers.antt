@@ -15,7 +15,7 @@ add_joint-requires c =
     let j = point_within c.args.self.now _ _ _ (c.loop-i.i + 1) c.requires.vertices (omega arith) in
     let kept = vertices_kept _ _ _ _ c.loop-i.invariant in
     let so_far = length-each_joint c.args.kind c.loop-i.i in
-    let one_more : suc c.loop-i.i ≤ c.args.points - 1 = omega arith in
+    let one_more : suc c.loop-i.i ≤ c.args.own.points - 1 = omega arith in
     let more = mul-le-mul_right each one_more in
     let split = suc-mul c.loop-i.i each in
     record { some_rows = c.requires.some_rows; first = omega arith; second = omega arith; space = index_room_left _ _ _ _ c.loop-i.invariant _ (omega (arith, c.requires.space)) }
@@ -24,4 +24,4 @@ pub loop-i-preserved : goal.loop-i-preserved
 loop-i-preserved c = triangles_step _ _ _ _ _ _ _ c.loop-i.invariant c.add_joint.ensures (each_more _ c.loop-i.i)
 
 pub returns : goal.returns
-returns c = let e : c.loop-i.i ≡ c.args.points - 1 = omega (arith, c.requires.some_points) in rw e at c.loop-i.invariant
+returns c = let e : c.loop-i.i ≡ c.args.own.points - 1 = omega (arith, c.requires.some_points) in rw e at c.loop-i.invariant

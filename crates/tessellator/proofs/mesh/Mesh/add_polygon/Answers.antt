@@ -17,4 +17,4 @@ pub loop-i-preserved : goal.loop-i-preserved
 loop-i-preserved c = triangles_step _ _ _ _ _ _ _ c.loop-i.invariant c.push_triangle.ensures (each_more _ c.loop-i.i)
 
 pub returns : goal.returns
-returns c = let e : c.loop-i.i ≡ c.args.points - 2 = omega (arith, c.requires) in rw e at c.loop-i.invariant
+returns c = let e : c.loop-i.i ≡ c.args.own.points - 2 = omega (arith, c.requires) in rw e at c.loop-i.invariant

@@ -6,4 +6,4 @@ use Rattle.tessellator.proofs.mesh.Mesh.add_triangles.Goals as goal
 
 pub returns-in-Nothing : goal.returns-in-Nothing
 returns-in-Nothing c =
-    triangles_none c.args.base _ ∙ ap (λ k. with_triangles c.args.base (mesh_state c.args.self.now) (triangles k c.args.points)) (sym c.in-Nothing.is)
+    triangles_none c.args.own.base _ ∙ ap (λ k. with_triangles c.args.own.base (mesh_state c.args.self.now) (triangles k c.args.own.points)) (sym c.in-Nothing.is)
