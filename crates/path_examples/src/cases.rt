@@ -8,7 +8,8 @@ pub struct Line {
     pub places: &'static [Pos2],
 }
 
-/// A rounded rectangle: least x and y, greatest x and y, and the radii nw, ne, sw and se.
+/// A rounded rectangle: least x and y, greatest x and y, and the radii nw, ne, sw and se. Rows of numbers, since boxes and
+/// radii with their names would take twelve lines for each.
 #[derive(Clone, Copy)]
 pub struct Rounded {
     pub name: &'static str,
