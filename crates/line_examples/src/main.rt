@@ -8,7 +8,8 @@ use ecolor::vertex::{TextureId, Vertex};
 use emath::plane::Pos2;
 use path::path::Path;
 use path::point::PathPoint;
-use printed::print_all;
+use printed::{Lines, Printed};
+use std::fmt;
 use tessellator::mesh::Mesh;
 use tessellator::stroke::open::stroke_open;
 use tessellator::stroke::{PathStroke, StrokeKind};
@@ -74,6 +75,14 @@ const SCALE: Zones = Zones {
         a: 4,
     },
 };
+
+fn print_all<T: Copy>(rt: &HostRuntime, items: &[T]) -> anyhow::Result<()>
+where
+    Printed<T>: fmt::Display,
+{
+    print!(rt; "{}", Lines(items))?;
+    Ok(())
+}
 
 fn print_triangles(rt: &HostRuntime, indices: &[u32]) -> anyhow::Result<()> {
     for corners in indices.chunks(3) {

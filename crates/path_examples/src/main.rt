@@ -13,7 +13,7 @@ use path::fault::PathFault;
 use path::path::Path;
 use path::places::Places;
 use path::point::PathPoint;
-use printed::{Bits, Printed, print_all};
+use printed::{Bits, Lines, Printed};
 use std::fmt;
 
 /// The first, the second, the middle one and the last.
@@ -35,6 +35,14 @@ where
 enum Shown {
     All,
     Few,
+}
+
+fn print_all<T: Copy>(rt: &HostRuntime, items: &[T]) -> anyhow::Result<()>
+where
+    Printed<T>: fmt::Display,
+{
+    print!(rt; "{}", Lines(items))?;
+    Ok(())
 }
 
 fn print_items<T: Copy>(rt: &HostRuntime, items: &[T], shown: Shown) -> anyhow::Result<()>

@@ -58,13 +58,18 @@ impl fmt::Display for Printed<Vertex> {
     }
 }
 
-/// A line for each of them.
-pub fn print_all<T: Copy>(rt: &HostRuntime, items: &[T]) -> anyhow::Result<()>
+/// A line for each item.
+#[derive(Clone, Copy)]
+pub struct Lines<'s, T>(pub &'s [T]);
+
+impl<'s, T: Copy> fmt::Display for Lines<'s, T>
 where
     Printed<T>: fmt::Display,
 {
-    for item in items {
-        println!(rt; "  {}", Printed(*item))?;
+    fn fmt<W: fmt::Write>(&self, f: &mut fmt::Formatter<W>) -> fmt::Result {
+        for item in self.0 {
+            writeln!(f, "  {}", Printed(*item))?;
+        }
+        Ok(())
     }
-    Ok(())
 }
