@@ -1,11 +1,9 @@
 -- Counting the runs of a cutting.
-use Rattle.std.proofs.Common.{◌≡◌, ℕ, ◌+◌, ◌≤◌, Bool, true, false, cond, not, List, [], ◌∷◌, map, length, get_or, Some, Option, refl, arith}
-use Rattle.std.specs.List.{position_from}
+use Rattle.std.proofs.Common.{◌≡◌, ℕ, ◌+◌, ◌≤◌, true, false, List, [], ◌∷◌, length, get_or, refl, arith}
 use Rattle.std.proofs.lemmas.Bool.{cond_both, cond-true, cond-false}
-use Rattle.tessellator.specs.Triangles.{Triangle, tri, named}
+use Rattle.tessellator.specs.Triangles.{Triangle, tri}
 use Rattle.cutting.specs.Cutting.{onto, go_on, cut}
-use Rattle.cutting.specs.Outcome.{too_wide}
-use Rattle.cutting.specs.Spans.{span_of, both, narrow, is_wide}
+use Rattle.cutting.specs.Spans.{span_of, both, narrow}
 use Rattle.cutting.specs.declared.span.Span.{Span}
 
 -- the runs that go on from a run with this span
@@ -55,12 +53,3 @@ few_after s (tri x y z ∷ ts) =
 pub few_runs : (ts : List Triangle) → length (cut ts) ≤ length ts
 few_runs [] = omega arith
 few_runs (tri x y z ∷ ts) = omega (arith, onto_after (tri x y z) (span_of (tri x y z)) ts, few_after (span_of (tri x y z)) ts)
-
-turned : (b : Bool) (k : ℕ) (o p : Option ℕ) → o ≡ p → cond (not b) (Some k) o ≡ cond b p (Some k)
-turned true k o p e = e
-turned false k o p e = refl
-
--- the first triangle that is too wide, as a search finds it
-pub too_wide_is : (k : ℕ) (ts : List (List ℕ)) → position_from is_wide k ts ≡ too_wide k (map named ts)
-too_wide_is k [] = refl
-too_wide_is k (t ∷ ts) = turned (narrow (span_of (named t))) k _ _ (too_wide_is (k + 1) ts)

@@ -7,4 +7,5 @@ pub mod Parting
 pub mod Promises
 pub mod Running
 pub mod Splitting
+pub mod Tallies
 pub mod Writing

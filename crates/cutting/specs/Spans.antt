@@ -1,6 +1,6 @@
 -- The least and greatest index of some triangles.
-use Rattle.std.specs.Prelude.{ℕ, ◌+◌, ◌-◌, min, max, Bool, not, List, nat_le}
-use Rattle.tessellator.specs.Triangles.{Triangle, tri, named}
+use Rattle.std.specs.Prelude.{ℕ, ◌+◌, ◌-◌, min, max, Bool, nat_le}
+use Rattle.tessellator.specs.Triangles.{Triangle, tri}
 use Rattle.cutting.specs.declared.span.Span.{Span}
 
 abbrev pub span_of : Triangle → Span
@@ -15,7 +15,3 @@ width s = s.greatest - s.least + 1
 -- 16 bits can name the vertices from the least to the greatest index
 abbrev pub narrow : Span → Bool
 narrow s = nat_le (width s) 65535
-
--- a triangle that no part can hold
-abbrev pub is_wide : List ℕ → Bool
-is_wide is = not (narrow (span_of (named is)))

@@ -1,12 +1,11 @@
 //! Cutting a mesh.
-ghost use Rattle.std.specs.Prelude.{◌≡◌, ◌*◌, ◌≤◌, map, length, position};
+ghost use Rattle.std.specs.Prelude.{◌≡◌, ◌*◌, ◌≤◌, map, length};
 ghost use Rattle.std.specs.List.{AllByRecursion};
 ghost use Rattle.tessellator.specs.State.{finished_state};
 ghost use Rattle.cutting.specs.Cutting.{cut, Narrow};
 ghost use Rattle.cutting.specs.Outcome.{left, on_front, space_for, run_count, in_one, in_runs, cutting};
 ghost use Rattle.cutting.specs.Parts.{less, lowered, parts_from, Within};
 ghost use Rattle.cutting.specs.Promises.{Fewest, Complete, Faithful};
-ghost use Rattle.cutting.specs.Spans.{is_wide};
 ghost use Rattle.tessellator.specs.Triangles.{named};
 
 use crate::fault::CutFault;
@@ -47,23 +46,21 @@ fn lower(source: &[u32], least: u32, indices: &mut [u16])
     }
 }
 
-/// The first triangle that no part can hold.
-fn first_too_wide(triangles: &[[u32; 3]]) -> Option<usize>
-    ensures { result ≡ position is_wide triangles.now }
-{
-    triangles
-        .iter()
-        .position(|triangle| !Span::of_triangle(*triangle).fits())
-}
-
 /// How many runs the triangles make. Refuses where no part can hold one of them.
 fn count_runs(triangles: &[[u32; 3]]) -> Result<usize, CutFault>
     ensures { result ≡ run_count (map named triangles.now) }
 {
-    match first_too_wide(triangles) {
-        Some(k) => Err(CutFault::Span(k)),
-        None => Ok(Runs(triangles).count()),
+    let mut passed = 0;
+    let mut count = 0;
+    for run in Runs(triangles) {
+        // A triangle that no part can hold is a run by itself.
+        if !run.span.fits() {
+            return Err(CutFault::Span(passed));
+        }
+        passed += run.triangles.len();
+        count += 1;
     }
+    Ok(count)
 }
 
 /// Writes each run as a part: its vertices from the least to the greatest index, and its indices less by the least.

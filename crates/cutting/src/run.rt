@@ -29,10 +29,10 @@ impl<'a> Iterator for Runs<'a> {
         let mut span = Span::of_triangle(*first);
         // Counted by hand: the span grows with the count, which no closure of a chain may change.
         let mut end = 1;
-        for triangle in others {
+        'run: for triangle in others {
             let wider = span.joined(Span::of_triangle(*triangle));
             if !wider.fits() {
-                break;
+                break 'run;
             }
             span = wider;
             end += 1;

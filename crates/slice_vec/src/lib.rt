@@ -52,7 +52,7 @@ impl<'a, T: Copy, const MAX: usize> SliceVec<'a, T, MAX> {
         ensures count { result ≡ length (held self.now).used }
         ensures few { result ≤ MAX }
     {
-        self.len
+        self.as_slice().len()
     }
 
     /// Whether none are.

@@ -6,40 +6,40 @@ use Rattle.cutting.specs.Spans.{span_of, both}
 use Rattle.cutting.proofs.Counting.{triangle}
 use Rattle.cutting.proofs.Running.{Running, Over, run_begins, run_takes, runs_out, run_full, next_run}
 use Rattle.cutting.proofs.run.RunsIterator.next.Goals as goal
-use Rattle.cutting.proofs.run.RunsIterator.next.Goals.{else-loop-triangle-test, then-loop-triangle-test+then-not-fits}
+use Rattle.cutting.proofs.run.RunsIterator.next.Goals.{else-run-test, then-run-test+then-not-fits}
 
-pub loop-triangle-init : goal.loop-triangle-init
-loop-triangle-init c =
+pub run-init : goal.run-init
+run-init c =
     let first = ap (λ l. triangle (map named l) 0) c.in_ok-first.ensures.cases.0 in
     (omega arith, rw first (run_begins _ _ _ c.of_triangle-span.ensures))
 
-pub loop-triangle-preserved : goal.loop-triangle-preserved
-loop-triangle-preserved c =
+pub run-preserved : goal.run-preserved
+run-preserved c =
     let others = c.in_ok-first.others.now in
-    let i = c.loop-triangle.triangle-index in
+    let i = c.run.triangle-index in
     let next = get_or-map named others i [] (tri 0 0 0) (omega arith) in (
       omega arith,
-      run_takes c.loop-triangle.invariant.1 _ (omega (arith, length-map others named))
-          (c.joined-wider.ensures ∙ ap (both c.loop-triangle.span) (c.of_triangle.ensures ∙ ap span_of (sym next))) (sym c.if-not-fits.ensures),
+      run_takes c.run.invariant.1 _ (omega (arith, length-map others named))
+          (c.joined-wider.ensures ∙ ap (both c.run.span) (c.of_triangle.ensures ∙ ap span_of (sym next))) (sym c.if-not-fits.ensures),
     )
 
 pub returns-clause-steps : goal.returns-clause-steps
 returns-clause-steps c =
     let others = c.in_ok-first.others.now in
-    let i = c.loop-triangle.triangle-index in
-    let s = c.loop-triangle.span in
+    let i = c.run.triangle-index in
+    let s = c.run.span in
     let cases = c.in_ok-first.ensures.cases.0 in
     let first = ap (λ l. triangle (map named l) 0) cases in
-    let r : Running (named c.in_ok-first.first.now) (map named others) i s = rw first at c.loop-triangle.invariant.1 in
+    let r : Running (named c.in_ok-first.first.now) (map named others) i s = rw first at c.run.invariant.1 in
     let over : Over r =
-    elim c.loop-triangle-test.branch [
-      | else-loop-triangle-test w ↦ runs_out r (omega (arith, length-map others named))
-      | then-loop-triangle-test+then-not-fits w ↦
+    elim c.run-test.branch [
+      | else-run-test w ↦ runs_out r (omega (arith, length-map others named))
+      | then-run-test+then-not-fits w ↦
           let next = get_or-map named others i [] (tri 0 0 0) (omega arith) in
           run_full r _ (omega (arith, length-map others named))
           (w.joined-wider.ensures ∙ ap (both s) (w.of_triangle.ensures ∙ ap span_of (sym next))) (sym w.if-not-fits.ensures)
     ] in
-    let end : c.loop-triangle.end ≡ i + 1 = c.loop-triangle.invariant.0 in
+    let end : c.run.end ≡ i + 1 = c.run.invariant.0 in
     next_run _ _ _ _ _ _ _ cases r over (rw end at c.split_at.ensures.front) (rw end at c.split_at.ensures.back)
 
 pub returns-clause-goes : goal.returns-clause-goes

@@ -4,5 +4,5 @@ use Rattle.cutting.proofs.Counting.{triangle}
 use Rattle.cutting.proofs.Running.{Running}
 use Rattle.cutting.proofs.run.RunsIterator.next.Given as goal
 
-abbrev pub invariant-loop-triangle : goal.invariant-loop-triangle
-invariant-loop-triangle l = (l.end ≡ l.triangle-index + 1) × Running (triangle (map named l.self.0.now) 0) (map named l.others) l.triangle-index l.span
+abbrev pub invariant-run : goal.invariant-run
+invariant-run l = (l.end ≡ l.triangle-index + 1) × Running (triangle (map named l.self.0.now) 0) (map named l.others) l.triangle-index l.span
