@@ -20,6 +20,9 @@ goes_on s (tri x y z) ts h = cond-true _ _ _ h
 pub stops : (s : Span) (t : Triangle) (ts : List Triangle) → narrow (both s (span_of t)) ≡ false → runs_after s (t ∷ ts) ≡ [] ∷ cut (t ∷ ts)
 stops s (tri x y z) ts h = cond-false _ _ _ h
 
+pub span_ordered : (t : Triangle) → (span_of t).least ≤ (span_of t).greatest
+span_ordered (tri x y z) = omega arith
+
 pub onto_some : (t : Triangle) (runs : List (List Triangle)) → 1 ≤ length (onto t runs)
 onto_some t [] = omega arith
 onto_some t (run ∷ runs) = omega arith

@@ -1,5 +1,5 @@
 -- Counting the runs, one after the other.
-use Rattle.std.proofs.Common.{◌≡◌, ℕ, ◌+◌, ◌-◌, ◌≤◌, min, max, true, false, leb, List, [], ◌∷◌, ◌++◌, length, get_or, Some, Ok, Err, sym, refl, ap, ◌∙◌, subst, arith}
+use Rattle.std.proofs.Common.{◌≡◌, ℕ, ◌+◌, ◌-◌, ◌≤◌, min, max, true, false, leb, List, [], ◌∷◌, ◌++◌, length, get_or, Some, Err, sym, refl, ap, ◌∙◌, subst, arith}
 use Rattle.std.proofs.lemmas.Bool.{cond_both, cond-true, leb-true, le-leb}
 use Rattle.std.proofs.lemmas.List.{length-append}
 use Rattle.tessellator.specs.Triangles.{Triangle, tri}
@@ -11,24 +11,25 @@ use Rattle.cutting.specs.declared.fault.CutFault.{CutFault}
 use Rattle.cutting.proofs.Cuts.{joined_cut}
 use Rattle.cutting.proofs.Running.{low_down, high_up}
 
--- a run that 16 bits can name has no triangle that is too wide
-narrow_on : (ts rest : List Triangle) (low high k : ℕ) → highest high ts - lowest low ts + 1 ≤ 65535 → too_wide k (ts ++ rest) ≡ too_wide (k + length ts) rest
-narrow_on [] rest low high k h = ap (λ n. too_wide n rest) (omega arith)
-narrow_on (tri x y z ∷ ts) rest low high k h =
+-- what goes on from low and high in a run that 16 bits can name has no triangle that is too wide
+none_wide_on : (ts rest : List Triangle) (low high k : ℕ) → highest high ts - lowest low ts + 1 ≤ 65535 → too_wide k (ts ++ rest) ≡ too_wide (k + length ts) rest
+none_wide_on [] rest low high k h = ap (λ n. too_wide n rest) (omega arith)
+none_wide_on (tri x y z ∷ ts) rest low high k h =
     let p : ℕ = min x (min y z) in
     let q : ℕ = max x (max y z) in
     cond-true _ _ _ (le-leb (q - p + 1) 65535 (omega (arith, high_up ts (max high q), low_down ts (min low p))))
-    ∙ narrow_on ts rest (min low p) (max high q) (k + 1) h
+    ∙ none_wide_on ts rest (min low p) (max high q) (k + 1) h
     ∙ ap (λ n. too_wide n rest) (omega arith)
 
-passes : (run rest : List Triangle) (k : ℕ) → narrow (span_of_run run) ≡ true → too_wide k (run ++ rest) ≡ too_wide (k + length run) rest
-passes [] rest k h = ap (λ n. too_wide n rest) (omega arith)
-passes (tri x y z ∷ ts) rest k h =
+-- nor has a whole run
+none_wide : (run rest : List Triangle) (k : ℕ) → narrow (span_of_run run) ≡ true → too_wide k (run ++ rest) ≡ too_wide (k + length run) rest
+none_wide [] rest k h = ap (λ n. too_wide n rest) (omega arith)
+none_wide (tri x y z ∷ ts) rest k h =
     let p : ℕ = min x (min y z) in
     let q : ℕ = max x (max y z) in
     let fits : highest q ts - lowest p ts + 1 ≤ 65535 = leb-true _ _ h in
     cond-true _ _ _ (le-leb (q - p + 1) 65535 (omega (arith, high_up ts q, low_down ts p)))
-    ∙ narrow_on ts rest p q (k + 1) fits
+    ∙ none_wide_on ts rest p q (k + 1) fits
     ∙ ap (λ n. too_wide n rest) (omega arith)
 
 -- the first run goes on from low and high, and 16 bits can name it with what it had
@@ -57,9 +58,9 @@ first_narrow x y z (r ∷ rs) others run f e =
     (le-leb (highest (max x (max y z)) r - lowest (min x (min y z)) r + 1) 65535 f)
 
 -- a run that 16 bits cannot name begins with a triangle that is too wide
-stands_alone : (ts run : List Triangle) (others : List (List Triangle)) (k : ℕ) → cut ts ≡ run ∷ others → narrow (span_of_run run) ≡ false → too_wide k ts ≡ Some k
-stands_alone [] run others k e h = absurd (let n = ap length e in omega arith)
-stands_alone (tri x y z ∷ ts) run others k e h =
+begins_wide : (ts run : List Triangle) (others : List (List Triangle)) (k : ℕ) → cut ts ≡ run ∷ others → narrow (span_of_run run) ≡ false → too_wide k ts ≡ Some k
+begins_wide [] run others k e h = absurd (let n = ap length e in omega arith)
+begins_wide (tri x y z ∷ ts) run others k e h =
     let p : ℕ = min x (min y z) in
     let q : ℕ = max x (max y z) in
     cond_both (leb (q - p + 1) 65535) _ _ (λ o. o ≡ Some k)
@@ -72,31 +73,22 @@ pub record Tally (all rest : List Triangle) (passed count : ℕ) : Type 0 where
   pub runs : count + length (cut rest) ≡ length (cut all)
   pub long : passed + length rest ≡ length all
 
-pub tally_begins : (all : List Triangle) → Tally all all 0 0
-tally_begins all = record { wide = refl; runs = omega arith; long = omega arith }
-
-pub tally_ends : (all rest : List Triangle) (passed count : ℕ) → Tally all rest passed count → cut rest ≡ [] → Ok count ≡ run_count all
-tally_ends all rest passed count t e =
-    let none : rest ≡ [] = sym (joined_cut rest) ∙ ap joined e in
-    let n : count ≡ length (cut all) = omega (arith, t.runs, ap length e) in
-    ap Ok n ∙ ap (λ o. counted o (length (cut all))) (sym (t.wide ∙ ap (too_wide passed) none))
-
 -- the next run, in front of those after it
 module _ (all rest run after : List Triangle) (passed count : ℕ) (t : Tally all rest passed count) (e : cut rest ≡ run ∷ cut after) where
   rest_is : rest ≡ run ++ after
   rest_is = sym (joined_cut rest) ∙ ap joined e ∙ ap (λ l. run ++ l) (joined_cut after)
 
-  pub run_long : passed + length run + length after ≡ length all
+  run_long : passed + length run + length after ≡ length all
   run_long = omega (arith, t.long, ap length rest_is, length-append run after)
 
   pub run_passes : (n : ℕ) → n ≡ length run → narrow (span_of_run run) ≡ true → Tally all after (passed + n) (count + 1)
   run_passes n long fits =
       subst (λ n. Tally all after (passed + n) (count + 1)) (sym long)
       (record {
-        wide = t.wide ∙ ap (too_wide passed) rest_is ∙ passes run after passed fits;
+        wide = t.wide ∙ ap (too_wide passed) rest_is ∙ none_wide run after passed fits;
         runs = omega (arith, t.runs, ap length e);
         long = run_long;
       })
 
   pub run_refused : narrow (span_of_run run) ≡ false → Err (CutFault.Span passed) ≡ run_count all
-  run_refused wide = ap (λ o. counted o (length (cut all))) (sym (t.wide ∙ stands_alone rest run (cut after) passed e wide))
+  run_refused wide = ap (λ o. counted o (length (cut all))) (sym (t.wide ∙ begins_wide rest run (cut after) passed e wide))

@@ -53,7 +53,7 @@ fn count_runs(triangles: &[[u32; 3]]) -> Result<usize, CutFault>
     let mut passed = 0;
     let mut count = 0;
     for run in Runs(triangles) {
-        // A triangle that no part can hold is a run by itself.
+        // A run that no part can hold is one triangle.
         if !run.span.fits() {
             return Err(CutFault::Span(passed));
         }

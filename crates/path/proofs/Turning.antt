@@ -1,4 +1,4 @@
--- Points that are turned in pairs from both ends.
+-- The winding of points, and how many are left when they are turned.
 use Rattle.std.proofs.Common.{◌≡◌, ℕ, ◌+◌, ◌<◌, ◌≤◌, List, [], ◌∷◌, map, reverse, length, get_or, drop, sym, refl, ap, ◌∙◌, arith}
 use lib.Ieee.{Float, binary64, of_bits, add, lt}
 use Rattle.std.proofs.lemmas.List.{length-map, length-reverse, at_drop_more}
